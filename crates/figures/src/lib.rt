@@ -1,0 +1,252 @@
+// The state of a run: figure 4's classes, the slots, threads and operation records of figure 3, and what the log will need.
+// What each access does to it is defined in specs/, one file per figure; the code is in the crates `calculator` and `machine`.
+use terms::Note;
+use terms::OpId;
+use terms::SnapshotId;
+use terms::Target;
+use terms::ThreadId;
+
+// ---- Figures 4 to 6: the calculator.
+
+// INSERT and DELETE (figure 3, line 1).
+pub enum Kind {
+    Insertion,
+    Deletion,
+}
+
+// One counter, or one cell of a snapshot: whose, and of which kind.
+pub struct Cell {
+    pub thread: ThreadId,
+    pub kind: Kind,
+}
+
+// An insertion number and a deletion number, of one thread.
+pub struct Counts {
+    pub insertions: u32,
+    pub deletions: u32,
+}
+
+// CountersSnapshot (figure 4, lines 48 to 51).
+pub struct Snapshot {
+    pub cells: [Counts; 8],
+    pub collecting: bool,
+    pub size: u32,
+}
+
+// What the log needs of a snapshot: the steps of its announcement and closing (0: not yet), and the values that its winner
+// read for its sum.
+pub struct Trace {
+    pub announced: u32,
+    pub closed: u32,
+    pub seen: [Counts; 8],
+}
+
+// SizeCalculator (figure 4, lines 45 to 47), with every snapshot announced so far.
+pub struct Calculator {
+    pub counters: [Counts; 8],
+    pub current: SnapshotId,
+    pub snapshots: [Snapshot; 65],
+    pub traces: [Trace; 65],
+}
+
+// What one access of the calculator can see: a counter, which snapshot is current, and of a snapshot its flag, a cell, its size.
+pub struct Sight {
+    pub count: u32,
+    pub current: SnapshotId,
+    pub collecting: bool,
+    pub cell: u32,
+    pub size: u32,
+}
+
+// The accesses of updateMetadata (figure 5, lines 75 to 83) and forward (figure 6, lines 95 to 103).
+pub enum UpdatePoint {
+    ReadCount,
+    RaiseCount,
+    ReadCurrent,
+    ReadFlag(SnapshotId),
+    ReadAgain(SnapshotId),
+    ReadCell(SnapshotId),
+    Forward(SnapshotId, u32),
+}
+
+// What such an access changes: nothing, the counter, or the snapshot's cell.
+pub enum UpdateDeed {
+    Reads,
+    Raises,
+    Forwards(SnapshotId),
+}
+
+pub enum UpdateNext {
+    Then(UpdatePoint),
+    Done,
+}
+
+pub struct UpdateMove {
+    pub next: UpdateNext,
+    pub deed: UpdateDeed,
+}
+
+// The accesses of compute (figure 5, lines 57 to 74; figure 6, lines 92 to 94 and 104 to 112).
+pub enum SizePoint {
+    FindCurrent,
+    FindFlag(SnapshotId),
+    Announce(SnapshotId),
+    CollectCount(SnapshotId, Cell),
+    CollectCell(SnapshotId, Cell, u32),
+    CollectSet(SnapshotId, Cell, u32),
+    LowerFlag(SnapshotId),
+    SumCell(SnapshotId, Cell),
+    FixSize(SnapshotId),
+}
+
+// What such an access changes. A cell read for the sum is kept by the thread; a size that was fixed by another is shared.
+pub enum SizeDeed {
+    Looks,
+    Announces,
+    Collects(SnapshotId, Cell, u32),
+    Lowers(SnapshotId),
+    Keeps(Cell, u32),
+    Fixes(SnapshotId, u32),
+    Shares(SnapshotId),
+}
+
+pub enum SizeNext {
+    Goes(SizePoint),
+    Sized(u32),
+}
+
+pub struct SizeMove {
+    pub next: SizeNext,
+    pub deed: SizeDeed,
+}
+
+// ---- Figure 3: the set over it.
+
+// A node's inserter, target and inserting operation; or a mark's deleter, target and deleting operation.
+// The operation's number is the identity that an exchange compares.
+pub struct Node {
+    pub note: Note,
+    pub op: OpId,
+}
+
+pub enum Content {
+    Empty,
+    Live(Node),
+    Marked(Node, Node),
+}
+
+// One slot per key.
+pub struct Slot {
+    pub content: Content,
+}
+
+// The kinds of operations, as the run file numbers them: 0 to 3.
+pub enum Call {
+    Insert,
+    Delete,
+    Contains,
+    Size,
+}
+
+// The update whose metadata is brought up to date: a node's insertion, or a mark's deletion.
+pub struct Update {
+    pub kind: Kind,
+    pub node: Node,
+}
+
+// What follows once the metadata is up to date.
+pub enum After {
+    Answer(u32),
+    ToMark(Node),
+    ToHelpUnlink(Node, Node),
+    ToUnlink(Node, Node),
+}
+
+// Where a thread stands: the access that it makes next. Idle: between operations, or with none left.
+pub enum Point {
+    Idle,
+    ReadSlot,
+    Updating(UpdatePoint, Update, After),
+    CountInsertions,
+    Link(Target),
+    HelpUnlink(Node, Node),
+    CountDeletions(Node),
+    Mark(Node, Target),
+    Unlink(Node, Node),
+    Sizing(SizePoint),
+}
+
+// What an access changes of the memory, or tells the log.
+pub enum Deed {
+    Rests,
+    Finds(Content),
+    Links(Target),
+    Marks(Node, Target),
+    Unlinks,
+    Updates(UpdateDeed, Update),
+    Sizes(SizeDeed),
+}
+
+pub enum Next {
+    To(Point),
+    Returns(u32),
+}
+
+pub struct Move {
+    pub next: Next,
+    pub deed: Deed,
+}
+
+// A thread: where it stands, its current operation, where its operations end, and the values that it has read for a sum.
+pub struct Local {
+    pub point: Point,
+    pub op: OpId,
+    pub end: OpId,
+    pub seen: [Counts; 8],
+}
+
+// An operation: what is asked; the four numbers that are handed back; and what the log needs. `found` is what the last slot
+// read found, at step `read`; `target`, `exchanged`, `raised` and `window` are an update's target, the steps of its slot
+// exchange and of its raising, and the snapshot that was being collected then (0: none); `snapshot` is the one that a
+// returned size took its answer from. Steps are 0 until they are taken.
+pub struct Record {
+    pub thread: ThreadId,
+    pub call: Call,
+    pub key: u8,
+    pub answer: u32,
+    pub first: u32,
+    pub last: u32,
+    pub own: u32,
+    pub read: u32,
+    pub found: Content,
+    pub target: Target,
+    pub exchanged: u32,
+    pub raised: u32,
+    pub window: SnapshotId,
+    pub snapshot: SnapshotId,
+}
+
+// A run's whole state after `clock` steps.
+pub struct Machine {
+    pub threads: u8,
+    pub keys: u8,
+    pub clock: u32,
+    pub idle: u32,
+    pub calculator: Calculator,
+    pub slots: [Slot; 16],
+    pub locals: [Local; 8],
+    pub records: [Record; 64],
+}
+
+impl Machine {
+    // The limits of document 01.
+    pub const THREADS: u8 = 8;
+
+    pub const KEYS: u8 = 16;
+
+    pub const OPERATIONS: usize = 64;
+
+    pub const STEPS: usize = 4096;
+    // A cell or a size that is not there yet; an answer that is not given yet.
+    pub const INVALID: u32 = 4294967295;
+}
