@@ -180,8 +180,8 @@ pub enum Point {
 pub enum Deed {
     Rests,
     Finds(Content),
-    Links(Target),
-    Marks(Node, Target),
+    Links(Node),
+    Marks(Node, Node),
     Unlinks,
     Updates(UpdateDeed, Update),
     Sizes(SizeDeed),
@@ -205,24 +205,43 @@ pub struct Local {
     pub seen: [Counts; 8],
 }
 
-// An operation: what is asked; the four numbers that are handed back; and what the log needs. `found` is what the last slot
-// read found, at step `read`; `target`, `exchanged`, `raised` and `window` are an update's target, the steps of its slot
-// exchange and of its raising, and the snapshot that was being collected then (0: none); `snapshot` is the one that a
-// returned size took its answer from. Steps are 0 until they are taken.
-pub struct Record {
+// What an operation asks, and for which thread.
+pub struct Asked {
     pub thread: ThreadId,
     pub call: Call,
     pub key: u8,
+}
+
+// The four numbers that are handed back: answer, first step, last step, own steps.
+pub struct Outcome {
     pub answer: u32,
     pub first: u32,
     pub last: u32,
     pub own: u32,
+}
+
+// The last slot read: its step, and what it found.
+pub struct Look {
     pub read: u32,
     pub found: Content,
+}
+
+// An update's target, the steps of its slot exchange and of its raising (0: not yet), and the snapshot that was being
+// collected at its raising (0: none).
+pub struct Change {
     pub target: Target,
     pub exchanged: u32,
     pub raised: u32,
     pub window: SnapshotId,
+}
+
+// An operation: what is asked, what is handed back, and what the log needs; `snapshot` is the one that a returned size took
+// its answer from.
+pub struct Record {
+    pub asked: Asked,
+    pub outcome: Outcome,
+    pub look: Look,
+    pub change: Change,
     pub snapshot: SnapshotId,
 }
 

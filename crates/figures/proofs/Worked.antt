@@ -1,0 +1,10 @@
+-- Every row of the worked runs is what the definitions give.
+use mathlib.Core.Path.{_≡_, refl}
+use mathlib.Core.List.{map}
+use Rattle.figures.specs.Start.{startOf, recordsOf, localsOf, ownerOf}
+use Rattle.figures.specs.Step.{moveOf, accessed, stepOf, runOf}
+use Rattle.figures.specs.Worked.{Row, rows, playOf, toldOf}
+
+pub worked : map (λ (r : Row). playOf (r .asked)) rows ≡ map (λ (r : Row). r .told) rows
+unfolding playOf toldOf startOf recordsOf localsOf ownerOf runOf stepOf accessed moveOf
+worked = refl
