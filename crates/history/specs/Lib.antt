@@ -1,0 +1,5 @@
+pub mod PlainSet
+pub mod Play
+pub mod Tally
+pub mod Order
+pub mod Span

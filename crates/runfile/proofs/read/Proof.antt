@@ -1,0 +1,129 @@
+use Prim.Native.Nat.{ℕ, _+_, _-_, _≤_, _<_}
+use mathlib.Core.Path.{_≡_, refl, sym, ap, _∙_}
+use mathlib.Core.Bool.{true, false, not}
+use lib.ListN.{length}
+use lib.Dec.{ltb, eqb}
+use borrow.Author.Tests.{lt-ltb, le-ltb, eq-eqb, ne-eqb, eqb-true}
+use Rattle.figures.specs.Limits.{mostThreads, mostKeys, mostOperations, mostSteps}
+use Rattle.runfile.specs.Rows.{outside, sumTo}
+use Rattle.runfile.specs.Layout.{entryAt, bodyAt, countIn}
+use Rattle.runfile.specs.Read.{refused, offsetRight, threadsIn, keysIn, operationsIn, stepsIn, scheduleIn, wrongEntry, wrongOperation, wrongStep}
+use Rattle.runfile.proofs.Laws.{first-before, inside}
+use native.Mathlib.Omega.{arith}
+use borrow.Author.Needs.{needs}
+use Rattle.runfile.proofs.read.Statement.{statement}
+use Rattle.runfile.proofs.read.Tie as tie
+use Rattle.runfile.proofs.read.Reads as reads
+use Rattle.runfile.proofs.read.Lts as lts
+use Rattle.runfile.proofs.is_outside.Reads as is-outside-reads
+use Rattle.runfile.proofs.read_table.Reads as read-table-reads
+use Rattle.runfile.proofs.refusal.Reads as refusal-reads
+use Rattle.runfile.proofs.wide.Reads as wide-reads
+
+refusal-requires : tie.Need-refusal-requires
+refusal-requires c κs = search needs
+
+returns : tie.Need-returns
+returns c =
+    let f = c .before .before .before .args .file .now in
+    simp (lt-ltb _ _ (c .before .if1 .taken)) (c .refusal .ensures)
+
+shared-slice-read-threads : tie.Need-shared-slice-read-threads
+shared-slice-read-threads c = search needs
+
+is-outside-requires : tie.Need-is-outside-requires
+is-outside-requires c κs = search needs
+
+refusal-requires-2 : tie.Need-refusal-requires-2
+refusal-requires-2 c κs = search needs
+
+returns-2 : tie.Need-returns-2
+returns-2 c =
+    let s = c .before .before .before .before .before .before in
+    let f = s .args .file .now in
+    let past1 = le-ltb (length f) 2 (omega arith) in
+    let on = sym (c .before .before .is-outside .ensures) ∙ c .before .if2 .taken in
+    simp (past1, on) (c .refusal2 .ensures)
+
+shared-slice-read-is-outside : tie.Need-shared-slice-read-is-outside
+shared-slice-read-is-outside c = search needs
+
+is-outside-requires-2 : tie.Need-is-outside-requires-2
+is-outside-requires-2 c κs = search needs
+
+refusal-requires-3 : tie.Need-refusal-requires-3
+refusal-requires-3 c κs = search needs
+
+returns-3 : tie.Need-returns-3
+returns-3 c =
+    let s = c .before .before .before .before .before .before .before .before .before in
+    let f = s .args .file .now in
+    let past1 = le-ltb (length f) 2 (omega arith) in
+    let past2 = sym (c .before .before .before .before .before .is-outside .ensures) ∙ c .before .before .before .before .if2 .left in
+    let on = sym (c .before .before .is-outside2 .ensures) ∙ c .before .if3 .taken in
+    simp (past1, past2, on) (c .refusal3 .ensures)
+
+wide-requires : tie.Need-wide-requires
+wide-requires c κs = search needs
+
+add-if4 : tie.Need-add-if4
+add-if4 c = search needs
+
+mul-if4 : tie.Need-mul-if4
+mul-if4 c = search needs
+
+add-if4-2 : tie.Need-add-if4-2
+add-if4-2 c = search needs
+
+refusal-requires-4 : tie.Need-refusal-requires-4
+refusal-requires-4 c κs = search needs
+
+returns-4 : tie.Need-returns-4
+returns-4 c =
+    let s = c .before .before .before .before .before .before .before .before .before .before .before in
+    let f = s .args .file .now in
+    let past1 = le-ltb (length f) 2 (omega arith) in
+    let past2 = sym (c .before .before .before .before .before .before .before .is-outside .ensures) ∙ c .before .before .before .before .before .before .if2 .left in
+    let past3 = sym (c .before .before .before .before .is-outside2 .ensures) ∙ c .before .before .before .if3 .left in
+    let on = lt-ltb (length f) (bodyAt (threadsIn f)) (omega arith) in
+    simp (past1, past2, past3, on) (c .refusal4 .ensures)
+
+read-table-requires : tie.Need-read-table-requires
+read-table-requires c κs =
+    let s = c .before .before .before .before .before .before .before .before .before .before in
+    let f = s .args .file .now in
+    let past2 = sym (c .before .before .before .before .before .before .is-outside .ensures) ∙ c .before .before .before .before .before .if2 .left in
+    (inside _ _ past2 .1, omega arith)
+
+returns-5 : tie.Need-returns-5
+returns-5 c =
+    let s = c .before .before .before .before .before .before .before .before .before .before .before in
+    let f = s .args .file .now in
+    let past1 = le-ltb (length f) 2 (omega arith) in
+    let past2 = sym (c .before .before .before .before .before .before .before .is-outside .ensures) ∙ c .before .before .before .before .before .before .if2 .left in
+    let past3 = sym (c .before .before .before .before .is-outside2 .ensures) ∙ c .before .before .before .if3 .left in
+    let past4 = le-ltb (length f) (bodyAt (threadsIn f)) (omega arith) in
+    simp (past1, past2, past3, past4) (c .read-table .ensures)
+
+pub read-spec : {M : Type 1} → statement M
+read-spec =
+    tie.close
+    (tie.spec
+    refusal-requires
+    returns
+    shared-slice-read-threads
+    is-outside-requires
+    refusal-requires-2
+    returns-2
+    shared-slice-read-is-outside
+    is-outside-requires-2
+    refusal-requires-3
+    returns-3
+    wide-requires
+    add-if4
+    mul-if4
+    add-if4-2
+    refusal-requires-4
+    returns-4
+    read-table-requires
+    returns-5)

@@ -1,0 +1,110 @@
+use Prim.Native.Nat.{ℕ, _+_, _-_, _≤_, _<_}
+use mathlib.Core.Path.{_≡_, refl, sym, ap, _∙_}
+use mathlib.Core.Bool.{true, false, not}
+use lib.ListN.{length}
+use lib.Dec.{ltb, eqb}
+use borrow.Author.Tests.{lt-ltb, le-ltb, eq-eqb, ne-eqb, eqb-true}
+use Rattle.figures.specs.Limits.{mostThreads, mostKeys, mostOperations, mostSteps}
+use Rattle.runfile.specs.Rows.{outside, sumTo}
+use Rattle.runfile.specs.Layout.{entryAt, bodyAt, countIn}
+use Rattle.runfile.specs.Read.{refused, offsetRight, threadsIn, keysIn, operationsIn, stepsIn, scheduleIn, wrongEntry, wrongOperation, wrongStep}
+use Rattle.runfile.proofs.Laws.{first-before, inside}
+use native.Mathlib.Omega.{arith}
+use borrow.Author.Needs.{needs}
+use Rattle.runfile.proofs.read_bodies.Statement.{statement}
+use Rattle.runfile.proofs.read_bodies.Tie as tie
+use Rattle.runfile.proofs.read_bodies.Reads as reads
+use Rattle.runfile.proofs.read_bodies.Lts as lts
+use Rattle.runfile.proofs.refusal.Reads as refusal-reads
+use Rattle.runfile.proofs.take_counts.Reads as take-counts-reads
+use Rattle.runfile.proofs.wide.Reads as wide-reads
+use Rattle.runfile.proofs.wrong_operation.Reads as wrong-operation-reads
+use Rattle.runfile.proofs.wrong_step.Reads as wrong-step-reads
+
+shared-slice-read-threads : tie.Need-shared-slice-read-threads
+shared-slice-read-threads c = search needs
+
+shared-slice-read-keys : tie.Need-shared-slice-read-keys
+shared-slice-read-keys c = search needs
+
+wide-requires : tie.Need-wide-requires
+wide-requires c κs = search needs
+
+add-operations-at : tie.Need-add-operations-at
+add-operations-at c = search needs
+
+mul-operations-at : tie.Need-mul-operations-at
+mul-operations-at c = search needs
+
+add-operations-at-2 : tie.Need-add-operations-at-2
+add-operations-at-2 c = search needs
+
+wrong-operation-requires : tie.Need-wrong-operation-requires
+wrong-operation-requires c κs = search needs
+
+refusal-requires : tie.Need-refusal-requires
+refusal-requires c κs = search needs
+
+returns : tie.Need-returns
+returns c =
+    let s = c .before .before .before .before .before .before .before in
+    let f = s .args .file .now in
+    let e : c .before .before .wrong-operation .result ≡ wrongOperation f = simp (c .before .before .before .wide .ensures .0, s .pre .4) at (c .before .before .wrong-operation .ensures) in
+    let on = lt-ltb (wrongOperation f) (scheduleIn f) (omega arith) in
+    simp on (c .refusal .ensures ∙ ap (refused 9) e)
+
+add-end : tie.Need-add-end
+add-end c = search needs
+
+wrong-step-requires : tie.Need-wrong-step-requires
+wrong-step-requires c κs = search needs
+
+refusal-requires-2 : tie.Need-refusal-requires-2
+refusal-requires-2 c κs = search needs
+
+returns-2 : tie.Need-returns-2
+returns-2 c =
+    let s = c .before .before .before .before .before .before .before .before .before in
+    let f = s .args .file .now in
+    let e : c .before .before .before .before .wrong-operation .result ≡ wrongOperation f = simp (c .before .before .before .before .before .wide .ensures .0, s .pre .4) at (c .before .before .before .before .wrong-operation .ensures) in
+    let e′ : c .before .before .wrong-step .result ≡ wrongStep f = simp (s .pre .4, s .pre .5) at (c .before .before .wrong-step .ensures) in
+    let past = le-ltb (wrongOperation f) (scheduleIn f) (omega arith) in
+    let on = lt-ltb (wrongStep f) (scheduleIn f + stepsIn f) (omega arith) in
+    simp (past, on) (c .refusal2 .ensures ∙ ap (refused 10) e′)
+
+wide-requires-2 : tie.Need-wide-requires-2
+wide-requires-2 c κs = search needs
+
+take-counts-requires : tie.Need-take-counts-requires
+take-counts-requires c κs = search needs
+
+returns-3 : tie.Need-returns-3
+returns-3 c =
+    let s = c .before .before .before .before .before .before .before .before .before .before in
+    let f = s .args .file .now in
+    let e : c .before .before .before .before .before .wrong-operation .result ≡ wrongOperation f = simp (c .before .before .before .before .before .before .wide .ensures .0, s .pre .4) at (c .before .before .before .before .before .wrong-operation .ensures) in
+    let e′ : c .before .before .before .wrong-step .result ≡ wrongStep f = simp (s .pre .4, s .pre .5) at (c .before .before .before .wrong-step .ensures) in
+    let past = le-ltb (wrongOperation f) (scheduleIn f) (omega arith) in
+    let past′ = le-ltb (wrongStep f) (scheduleIn f + stepsIn f) (omega arith) in
+    simp (past, past′, c .take-counts .ensures, c .before .wide2 .ensures .0, c .before .before .before .before .before .before .wide .ensures .0, s .pre .3, s .pre .4, s .pre .5)
+
+pub read-bodies-spec : {M : Type 1} → statement M
+read-bodies-spec =
+    tie.close
+    (tie.spec
+    shared-slice-read-threads
+    shared-slice-read-keys
+    wide-requires
+    add-operations-at
+    mul-operations-at
+    add-operations-at-2
+    wrong-operation-requires
+    refusal-requires
+    returns
+    add-end
+    wrong-step-requires
+    refusal-requires-2
+    returns-2
+    wide-requires-2
+    take-counts-requires
+    returns-3)

@@ -1,0 +1,177 @@
+use Prim.Native.Nat.{ℕ, _+_, _-_, _≤_, _<_}
+use mathlib.Core.Path.{_≡_, refl, sym, ap, _∙_}
+use mathlib.Core.Bool.{true, false, not}
+use lib.ListN.{length}
+use lib.Dec.{ltb, eqb}
+use borrow.Author.Tests.{lt-ltb, le-ltb, eq-eqb, ne-eqb, eqb-true}
+use Rattle.figures.specs.Limits.{mostThreads, mostKeys, mostOperations, mostSteps}
+use Rattle.runfile.specs.Rows.{outside, sumTo}
+use Rattle.runfile.specs.Layout.{entryAt, bodyAt, countIn}
+use Rattle.runfile.specs.Read.{refused, offsetRight, threadsIn, keysIn, operationsIn, stepsIn, scheduleIn, wrongEntry, wrongOperation, wrongStep}
+use Rattle.runfile.proofs.Laws.{first-before, inside}
+use native.Mathlib.Omega.{arith}
+use borrow.Author.Needs.{needs}
+use Rattle.runfile.proofs.read_table.Statement.{statement}
+use Rattle.runfile.proofs.read_table.Tie as tie
+use Rattle.runfile.proofs.read_table.Reads as reads
+use Rattle.runfile.proofs.read_table.Lts as lts
+use Rattle.runfile.proofs.read_bodies.Reads as read-bodies-reads
+use Rattle.runfile.proofs.refusal.Reads as refusal-reads
+use Rattle.runfile.proofs.sum_counts.Reads as sum-counts-reads
+use Rattle.runfile.proofs.wide.Reads as wide-reads
+use Rattle.runfile.proofs.word.Reads as word-reads
+use Rattle.runfile.proofs.wrong_entry.Reads as wrong-entry-reads
+
+shared-slice-read-wide : tie.Need-shared-slice-read-wide
+shared-slice-read-wide c = search needs
+
+wide-requires : tie.Need-wide-requires
+wide-requires c κs = search needs
+
+add-wrong-entry : tie.Need-add-wrong-entry
+add-wrong-entry c = search needs
+
+wrong-entry-requires : tie.Need-wrong-entry-requires
+wrong-entry-requires c κs = search needs
+
+add-if1 : tie.Need-add-if1
+add-if1 c = search needs
+
+mul-refusal : tie.Need-mul-refusal
+mul-refusal c = search needs
+
+add-refusal : tie.Need-add-refusal
+add-refusal c = search needs
+
+refusal-requires : tie.Need-refusal-requires
+refusal-requires c κs = search needs
+
+returns : tie.Need-returns
+returns c =
+    let s = c .before .before .before .before .before .before in
+    let f = s .args .file .now in
+    let on = lt-ltb (wrongEntry f) (threadsIn f + 1) (omega arith) in
+    simp on (c .refusal .ensures ∙ ap (λ (i : ℕ). refused 5 (entryAt i)) (c .before .before .wrong-entry .ensures))
+
+sum-counts-requires : tie.Need-sum-counts-requires
+sum-counts-requires c κs = search needs
+
+refusal-requires-2 : tie.Need-refusal-requires-2
+refusal-requires-2 c κs = search needs
+
+returns-2 : tie.Need-returns-2
+returns-2 c =
+    let s = c .before .before .before .before .before .before .before .before in
+    let f = s .args .file .now in
+    let e6 : c .before .before .sum-counts .result ≡ operationsIn f = simp (c .before .before .before .before .before .wide .ensures .0) at (c .before .before .sum-counts .ensures .0) in
+    let past5 = le-ltb (wrongEntry f) (threadsIn f + 1) (omega arith) in
+    let on = lt-ltb mostOperations (operationsIn f) (omega arith) in
+    simp (past5, on) (c .refusal2 .ensures)
+
+mul-word : tie.Need-mul-word
+mul-word c = search needs
+
+add-word : tie.Need-add-word
+add-word c = search needs
+
+add-word-2 : tie.Need-add-word-2
+add-word-2 c = search needs
+
+word-requires : tie.Need-word-requires
+word-requires c κs = search needs
+
+refusal-requires-3 : tie.Need-refusal-requires-3
+refusal-requires-3 c κs = search needs
+
+returns-3 : tie.Need-returns-3
+returns-3 c =
+    let s = c .before .before .before .before .before .before .before .before .before .before in
+    let f = s .args .file .now in
+    let e6 : c .before .before .before .before .sum-counts .result ≡ operationsIn f = simp (c .before .before .before .before .before .before .before .wide .ensures .0) at (c .before .before .before .before .sum-counts .ensures .0) in
+    let e7 : c .before .before .word .result ≡ stepsIn f = simp (c .before .before .before .before .before .before .before .wide .ensures .0) at (c .before .before .word .ensures .0) in
+    let past5 = le-ltb (wrongEntry f) (threadsIn f + 1) (omega arith) in
+    let past6 = le-ltb mostOperations (operationsIn f) (omega arith) in
+    let on = lt-ltb mostSteps (stepsIn f) (omega arith) in
+    simp (past5, past6, on) (c .refusal3 .ensures)
+
+mul-word-2 : tie.Need-mul-word-2
+mul-word-2 c = search needs
+
+add-word-3 : tie.Need-add-word-3
+add-word-3 c = search needs
+
+word-requires-2 : tie.Need-word-requires-2
+word-requires-2 c κs = search needs
+
+add-if4 : tie.Need-add-if4
+add-if4 c = search needs
+
+refusal-requires-4 : tie.Need-refusal-requires-4
+refusal-requires-4 c κs = search needs
+
+returns-4 : tie.Need-returns-4
+returns-4 c =
+    let s = c .before .before .before .before .before .before .before .before .before .before .before .before in
+    let f = s .args .file .now in
+    let e6 : c .before .before .before .before .before .before .sum-counts .result ≡ operationsIn f = simp (c .before .before .before .before .before .before .before .before .before .wide .ensures .0) at (c .before .before .before .before .before .before .sum-counts .ensures .0) in
+    let e7 : c .before .before .before .before .word .result ≡ stepsIn f = simp (c .before .before .before .before .before .before .before .before .before .wide .ensures .0) at (c .before .before .before .before .word .ensures .0) in
+    let e8 : c .before .before .word2 .result ≡ scheduleIn f = simp (c .before .before .before .before .before .before .before .before .before .wide .ensures .0) at (c .before .before .word2 .ensures .0) in
+    let past5 = le-ltb (wrongEntry f) (threadsIn f + 1) (omega arith) in
+    let past6 = le-ltb mostOperations (operationsIn f) (omega arith) in
+    let past7 = le-ltb mostSteps (stepsIn f) (omega arith) in
+    let on = ne-eqb (length f) (scheduleIn f + stepsIn f) (λ e. c .before .if4 .taken (omega arith)) in
+    simp (past5, past6, past7, on) (c .refusal4 .ensures)
+
+read-bodies-requires : tie.Need-read-bodies-requires
+read-bodies-requires c κs =
+    let s = c .before .before .before .before .before .before .before .before .before .before .before in
+    let f = s .args .file .now in
+    let e6 : c .before .before .before .before .before .sum-counts .result ≡ operationsIn f = simp (c .before .before .before .before .before .before .before .before .wide .ensures .0) at (c .before .before .before .before .before .sum-counts .ensures .0) in
+    let e7 : c .before .before .before .word .result ≡ stepsIn f = simp (c .before .before .before .before .before .before .before .before .wide .ensures .0) at (c .before .before .before .word .ensures .0) in
+    let e8 : c .before .word2 .result ≡ scheduleIn f = simp (c .before .before .before .before .before .before .before .before .wide .ensures .0) at (c .before .word2 .ensures .0) in
+    let at-end : scheduleIn f ≡ bodyAt (threadsIn f) + operationsIn f = eqb-true _ _ (first-before (offsetRight f) (threadsIn f + 1 - 0) 0 (threadsIn f) (omega arith) (omega arith)) in
+    (omega arith, omega arith, omega arith, e6, e8, e7)
+
+returns-5 : tie.Need-returns-5
+returns-5 c =
+    let s = c .before .before .before .before .before .before .before .before .before .before .before .before in
+    let f = s .args .file .now in
+    let e6 : c .before .before .before .before .before .before .sum-counts .result ≡ operationsIn f = simp (c .before .before .before .before .before .before .before .before .before .wide .ensures .0) at (c .before .before .before .before .before .before .sum-counts .ensures .0) in
+    let e7 : c .before .before .before .before .word .result ≡ stepsIn f = simp (c .before .before .before .before .before .before .before .before .before .wide .ensures .0) at (c .before .before .before .before .word .ensures .0) in
+    let e8 : c .before .before .word2 .result ≡ scheduleIn f = simp (c .before .before .before .before .before .before .before .before .before .wide .ensures .0) at (c .before .before .word2 .ensures .0) in
+    let past5 = le-ltb (wrongEntry f) (threadsIn f + 1) (omega arith) in
+    let past6 = le-ltb mostOperations (operationsIn f) (omega arith) in
+    let past7 = le-ltb mostSteps (stepsIn f) (omega arith) in
+    let past8 = eq-eqb (length f) (scheduleIn f + stepsIn f) (omega arith) in
+    simp (past5, past6, past7, past8) (c .read-bodies .ensures)
+
+pub read-table-spec : {M : Type 1} → statement M
+read-table-spec =
+    tie.close
+    (tie.spec
+    shared-slice-read-wide
+    wide-requires
+    add-wrong-entry
+    wrong-entry-requires
+    add-if1
+    mul-refusal
+    add-refusal
+    refusal-requires
+    returns
+    sum-counts-requires
+    refusal-requires-2
+    returns-2
+    mul-word
+    add-word
+    add-word-2
+    word-requires
+    refusal-requires-3
+    returns-3
+    mul-word-2
+    add-word-3
+    word-requires-2
+    add-if4
+    refusal-requires-4
+    returns-4
+    read-bodies-requires
+    returns-5)

@@ -1,0 +1,63 @@
+use Prim.Native.Nat.{_+_, _-_, _*_, _≤_}
+use mathlib.Core.Path.{_≡_, refl, sym, _∙_}
+use mathlib.Core.List.{_++_}
+use native.Mathlib.Nat.{sub-zero}
+use borrow.Author.Tests.{lt-ltb, le-ltb, eq-eqb, ne-eqb}
+use lib.ListN.{length, length-set, replicate}
+use lib.Seq.{sets}
+use Rattle.runfile.specs.Rows.{firstBadIn, sumTo, listFrom}
+use Rattle.runfile.specs.Layout.{bodyAt, countIn}
+use Rattle.runfile.specs.Read.{threadsIn, offsetRight, operationRight, stepRight, wrongEntry}
+use Rattle.runfile.proofs.Laws.{bad-on, bad-off, bad-end, sum-on, list-on, list-end, length-list, padded}
+use native.Mathlib.Omega.{arith}
+use borrow.Author.Needs.{needs}
+use Rattle.runfile.proofs.wrong_step.Statement.{statement}
+use Rattle.runfile.proofs.wrong_step.Tie as tie
+use Rattle.runfile.proofs.wrong_step.Reads as reads
+use Rattle.runfile.proofs.wrong_step.Lts as lts
+
+abbrev Inv-loop : tie.InvT-loop
+Inv-loop bytes threads from end p₀ p =
+    (p ≤ end) × (firstBadIn (stepRight threads bytes) p end ≡ firstBadIn (stepRight threads bytes) from end)
+
+abbrev μ-loop : tie.MeasureT-loop
+μ-loop bytes threads from end p₀ p = end - p
+
+loop-holds : tie.Need-loop-holds Inv-loop μ-loop
+loop-holds c = search needs
+
+shared-slice-read-step : tie.Need-shared-slice-read-step Inv-loop μ-loop
+shared-slice-read-step c = search needs
+
+returns : tie.Need-returns Inv-loop μ-loop
+returns c =
+    let l = c .before .before .before .loop in
+    sym (bad-off _ (c .before .before .loop-test .taken) (le-ltb _ _ (c .if1 .taken))) ∙ l .inv .1
+
+add-p : tie.Need-add-p Inv-loop μ-loop
+add-p c = search needs
+
+loop-less : tie.Need-loop-less Inv-loop μ-loop
+loop-less c = search needs
+
+loop-again : tie.Need-loop-again Inv-loop μ-loop
+loop-again c =
+    let l = c .before .before .before .loop in
+    (search needs, sym (bad-on _ (c .before .before .loop-test .taken) (lt-ltb _ _ (c .if1 .left))) ∙ l .inv .1)
+
+returns-2 : tie.Need-returns-2 Inv-loop μ-loop
+returns-2 c = sym (bad-end _ (c .loop-test .left)) ∙ c .before .loop .inv .1
+
+pub wrong-step-spec : {M : Type 1} → statement M
+wrong-step-spec =
+    tie.close
+    (tie.spec
+    Inv-loop
+    μ-loop
+    loop-holds
+    shared-slice-read-step
+    returns
+    add-p
+    loop-less
+    loop-again
+    returns-2)
