@@ -18,7 +18,7 @@ use Rattle.figures.specs.declared.Deed.{Deed}
 use Rattle.figures.specs.declared.Deed.the-variants.{Rests, Finds, Links, Marks, Unlinks, Updates, Sizes}
 use Rattle.figures.specs.Limits.{invalid}
 use Rattle.figures.proofs.World.{World, thr, key, call, cellOp, cellNo, noOf, updateCell, updateTarget, updateOp}
-use Rattle.figures.proofs.Inv.{Noted, Settled, Forwarding, Carrying, Lowering, Summing, Known, Using, Fits, FoundSettled, total}
+use Rattle.figures.proofs.Inv.{Noted, Settled, Forwarding, Behind, Carrying, Lowering, Summing, Known, Using, Fits, FoundSettled, total}
 
 -- the operation o of thread t takes a step
 pub record Acting (T n x : ℕ) (w : World) (t o : ℕ) : Type 0 where
@@ -66,7 +66,7 @@ pub record RaisesNow (w : World) (u : Update) : Type 0 where
 pub record ForwardsNow (w : World) (s : ℕ) (u : Update) : Type 0 where
   pub noted : Noted w (u .node) (u .kind) (key w (updateOp u))
   pub forwarding : Forwarding w u s
-  pub behind : (w .cell s (updateCell u) ≡ invalid) ⊎ (w .cell s (updateCell u) < updateTarget u)
+  pub behind : Behind u (w .cell s (updateCell u))
 
 pub record CollectsNow (T : ℕ) (w : World) (o s q v : ℕ) : Type 0 where
   pub carrying : Carrying T w o s q v
@@ -87,7 +87,7 @@ GuarSize T w t o Looks = Unit {0}
 GuarSize T w t o Announces = w .flag (w .cur) ≡ false
 GuarSize T w t o (Collects s j v) = CollectsNow T w o (s .0) (noOf j) v
 GuarSize T w t o (Lowers s) = Lowering T w o (s .0)
-GuarSize T w t o (Keeps j v) = Unit {0}
+GuarSize T w t o (Keeps j v) = noOf j < T + T
 GuarSize T w t o (Fixes s v) = (call w o ≡ Size) × FixesNow T w t o (s .0) v
 GuarSize T w t o (Shares s) = call w o ≡ Size
 

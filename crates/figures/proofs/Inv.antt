@@ -82,7 +82,7 @@ pub record ReadFor (w : World) (s q v : ℕ) : Type 0 where
   pub since : w .held s q ≤ v
 
 -- the sum of the first m threads' insertions, or deletions
-pub sumBy : Kind → (ℕ → ℕ) → ℕ → ℕ
+unfoldable pub sumBy : Kind → (ℕ → ℕ) → ℕ → ℕ
 sumBy k f zero = 0
 sumBy k f (suc m) = f (cellNo m k) + sumBy k f m
 
@@ -261,6 +261,10 @@ pub record Forwarding (w : World) (u : Update) (s : ℕ) : Type 0 where
   pub sighted : Sighted w u s
   pub reach : (v : ℕ) → 0 < w .raised v → cellOp w v ≡ updateCell u → w .raised v < w .ann s → w .target v ≤ updateTarget u
 
+-- the known value is INVALID or below the target
+abbrev pub Behind : Update → ℕ → Type 0
+Behind u v = (v ≡ invalid) ⊎ (v < updateTarget u)
+
 abbrev pub AtUpdate : World → Update → UpdatePoint → Type 0
 AtUpdate w u ReadCount = Unit {0}
 AtUpdate w u RaiseCount = Unit {0}
@@ -268,7 +272,7 @@ AtUpdate w u ReadCurrent = 0 < w .raised (updateOp u)
 AtUpdate w u (ReadFlag s) = Raised w u (s .0)
 AtUpdate w u (ReadAgain s) = Sighted w u (s .0)
 AtUpdate w u (ReadCell s) = Forwarding w u (s .0)
-AtUpdate w u (Forward s v) = Forwarding w u (s .0)
+AtUpdate w u (Forward s v) = Forwarding w u (s .0) × Behind u v
 
 -- u is what was found
 abbrev pub IsFound : Content → Update → Type 0
@@ -374,7 +378,7 @@ pub record Summing (T : ℕ) (w : World) (t o s q : ℕ) : Type 0 where
 abbrev pub AtSize : ℕ → World → ℕ → ℕ → SizePoint → Type 0
 AtSize T w t o FindCurrent = Unit {0}
 AtSize T w t o (FindFlag s) = Looking w o (s .0)
-AtSize T w t o (Announce s) = Looking w o (s .0)
+AtSize T w t o (Announce s) = Looking w o (s .0) × (0 < s .0 → w .flag (s .0) ≡ false)
 AtSize T w t o (CollectCount s j) = Collecting T w o (s .0) (noOf j)
 AtSize T w t o (CollectCell s j v) = Carrying T w o (s .0) (noOf j) v
 AtSize T w t o (CollectSet s j v) = Carrying T w o (s .0) (noOf j) v

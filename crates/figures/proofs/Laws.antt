@@ -1,20 +1,20 @@
 -- Laws that every proof over the state uses: a list after a write, a block after a write, and what follows a test.
-use Prim.Native.Nat.{ℕ, suc, _+_, _-_, _%_, _^_, _≤_, _<_}
-use mathlib.Core.Path.{_≡_, refl, sym, ap, _∙_, subst}
+use Prim.Native.Nat.{ℕ, zero, suc, _≤_, _<_}
+use mathlib.Core.Path.{_≡_, refl, sym, ap, _∙_}
 use mathlib.Core.Logic.{_≢_}
-use mathlib.Core.Bool.{Bool, true, false, cond, not, _&&_, _||_}
-use mathlib.Core.List.{List, [], _∷_}
+use mathlib.Core.Bool.{Bool, true, false, cond, _&&_, _||_}
+use mathlib.Core.List.{List}
 use native.Mathlib.Omega.{arith}
 use native.Mathlib.Decide.{ℕ-discrete, decLt}
-use lib.ListN.{length, getD, set, length-set}
+use lib.ListN.{length, getD, set, replicate, length-set}
 use lib.Seq.{getD-set-same, getD-set-other, set-out}
-use lib.Dec.{eqb, ltb, leb}
-use borrow.Author.Tests.{ltb-true, ltb-false, leb-true, leb-false, eqb-true, eqb-false}
+use lib.Dec.{eqb, ltb}
+use borrow.Author.Tests.{ltb-true, ltb-false, eqb-true, eqb-false}
 use Rattle.figures.specs.declared.Kind.{Kind}
 use Rattle.figures.specs.declared.Kind.the-variants.{Insertion, Deletion}
 use Rattle.figures.specs.declared.Cell.{Cell}
 use Rattle.figures.specs.declared.Counts.{Counts}
-use Rattle.figures.specs.Figure4.{more, moreByte, countOf, withCount, both, countAt, setCount}
+use Rattle.figures.specs.Figure4.{more, moreByte, countOf, withCount, both, countAt, setCount, blockOf}
 
 -- ---- A list after a write.
 
@@ -39,6 +39,12 @@ module _ {A : Type 0} (P : A → Type 0) (l : List A) (i j : ℕ) (a d : A) wher
 -- a part of an entry that the write leaves as it was
 pub set-field : {A B : Type 0} (f : A → B) (l : List A) (i j : ℕ) (a d : A) → f a ≡ f (getD l i d) → f (getD (set l i a) j d) ≡ f (getD l j d)
 set-field f l i j a d e = set-holds (λ x. f x ≡ f (getD l j d)) l i j a d (λ q. rw q e) refl
+
+-- what holds of the one value, and of the default, holds of every entry of a list of that value
+pub replicate-holds : {A : Type 0} (P : A → Type 0) (n i : ℕ) (a d : A) → P a → P d → P (getD (replicate n a) i d)
+replicate-holds P zero i a d h z = z
+replicate-holds P (suc n) zero a d h z = h
+replicate-holds P (suc n) (suc i) a d h z = replicate-holds P n i a d h z
 
 -- ---- Cells.
 
@@ -97,6 +103,14 @@ module _ (P : ℕ → Type 0) (b : List Counts) (j j' : Cell) (v : ℕ) where
       go : Dec (j' ≡ j) → P (countAt (setCount b j v) j')
       go (yes e) = rw e (rw (count-same b j v h) (f e))
       go (no n) = rw (count-other b j j' v n) (g n)
+
+-- a block of one value, where it ends 0
+pub block-holds : (P : ℕ → Type 0) (v : ℕ) (j : Cell) → P v → P 0 → P (countAt (blockOf v) j)
+block-holds P v j h z = replicate-holds (λ (c : Counts). P (countOf (j .kind) c)) 8 (j .thread .0) (both v) (both 0) (of-both (j .kind) v h) (of-both (j .kind) 0 z)
+  where
+    of-both : (k : Kind) (n : ℕ) → P n → P (countOf k (both n))
+    of-both Insertion n x = x
+    of-both Deletion n x = x
 
 -- ---- What follows a test.
 

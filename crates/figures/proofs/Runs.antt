@@ -1,12 +1,10 @@
 -- A run, step by step: what holds at the start and is kept by every step holds after every run.
-use Prim.Native.Nat.{ℕ, zero, suc, _+_, _≤_, _<_}
-use mathlib.Core.Path.{_≡_, refl, sym, ap, _∙_}
-use mathlib.Core.Bool.{Bool, true, false, cond}
+use Prim.Native.Nat.{ℕ, _≤_, _<_}
+use mathlib.Core.Path.{_≡_, refl, sym, ap}
 use mathlib.Core.List.{List, [], _∷_, _++_, append-assoc, append-nil}
 use native.Mathlib.Omega.{arith}
 use native.Mathlib.Decide.{decLt}
-use lib.ListN.{length, getD, List·getD-eq-default}
-use lib.Dec.{ltb}
+use lib.ListN.{length, List·getD-eq-default}
 use Rattle.terms.specs.declared.ThreadId.{ThreadId}
 use Rattle.figures.specs.declared.Local.{Local}
 use Rattle.figures.specs.declared.Machine.{Machine}

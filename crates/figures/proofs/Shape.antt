@@ -1,11 +1,11 @@
 -- The lists of the state have their lengths, in every run.
-use Prim.Native.Nat.{ℕ, zero, suc, _+_, _≤_, _<_}
-use mathlib.Core.Path.{_≡_, refl, sym, ap, _∙_}
-use mathlib.Core.Bool.{Bool, true, false, cond}
+use Prim.Native.Nat.{ℕ, zero, suc, _+_, _<_}
+use mathlib.Core.Path.{_≡_, refl, ap, _∙_}
+use mathlib.Core.Bool.{true, false}
 use mathlib.Core.List.{List, [], _∷_}
 use native.Mathlib.Omega.{arith}
 use native.Mathlib.Nat.{le-of-suc-le-suc}
-use lib.ListN.{length, getD, set, length-set, length-replicate, getD-replicate}
+use lib.ListN.{length, getD, length-set, length-replicate, getD-replicate}
 use lib.Seq.{length-sets}
 use Rattle.terms.specs.declared.ThreadId.{ThreadId}
 use Rattle.terms.specs.declared.OpId.{OpId}
@@ -28,9 +28,9 @@ use Rattle.figures.specs.declared.Next.the-variants.{To, Returns}
 use Rattle.figures.specs.declared.Local.{Local}
 use Rattle.figures.specs.declared.Record.{Record}
 use Rattle.figures.specs.declared.Machine.{Machine}
-use Rattle.figures.specs.Figure4.{noSnapshot, noTrace, snapshotAt, traceAt, withSnapshot, withTrace, blockOf, freshSnapshot, freshTrace, newId, raised, written, announced, lowered, fixed, setCount}
+use Rattle.figures.specs.Figure4.{noSnapshot, noTrace, snapshotAt, withSnapshot, withTrace, freshSnapshot, freshTrace, newId, raised, written, announced, lowered, fixed}
 use Rattle.figures.specs.Figure3.{cellOf}
-use Rattle.figures.specs.Step.{noLocal, noRecord, noSlot, localAt, recordAt, withCalculator, withContent, withLocal, withRecord, withClock, updates, sizes, does, goesOn, ticked, accessed, idled, stepOf, runOf, moveOf}
+use Rattle.figures.specs.Step.{noLocal, noSlot, localAt, withCalculator, withContent, withLocal, withRecord, withClock, updates, sizes, does, goesOn, ticked, accessed, stepOf, runOf, moveOf}
 use Rattle.figures.specs.Start.{startOf, localsOf, recordsOf, unbegun}
 use Rattle.figures.proofs.Laws.{set-holds, count-length}
 use Rattle.figures.proofs.Runs.{step-case, acting, run-keeps}

@@ -5,4 +5,8 @@ pub mod Figure5
 pub mod Figure3
 pub mod Step
 pub mod Start
+pub mod Places
+pub mod Demand
 pub mod Worked
+pub mod Counts
+pub mod Ranges

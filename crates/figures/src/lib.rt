@@ -245,6 +245,15 @@ pub struct Record {
     pub snapshot: SnapshotId,
 }
 
+// Where an operation stands in the log: at a step; there, sizes (rank 0) before all others (rank 1); sizes by thread and others by
+// raising step or own read (`tie`); and an update (0) before those that found it, by their read (`read`).
+pub struct Place {
+    pub step: u32,
+    pub rank: u32,
+    pub tie: u32,
+    pub read: u32,
+}
+
 // A run's whole state after `clock` steps.
 pub struct Machine {
     pub threads: u8,

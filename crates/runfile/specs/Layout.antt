@@ -1,7 +1,7 @@
 -- "The run file": where everything stands in it, and the file made of its contents.
 use Prim.Native.Nat.{ℕ, _+_, _*_, _/_, _%_}
 use mathlib.Core.List.{List, [], _∷_, _++_}
-use mathlib.Core.Bool.{Bool, true, false}
+use mathlib.Core.Bool.{Bool}
 use lib.ListN.{length, getD}
 use lib.Dec.{ltb, eqb}
 use Rattle.runfile.specs.Rows.{pick}
@@ -27,6 +27,17 @@ countIn f i = wordAt f (entryAt i + 2)
 -- An operation byte is kind × 64 + key. Insert, delete and contains (0, 1, 2) have a key below K; size is exactly 192.
 abbrev pub allowed : ℕ → ℕ → Bool
 allowed keys byte = pick (ltb (byte / 64) 3) (ltb (byte % 64) keys) (eqb byte 192)
+
+-- whether the byte at p is right, of a list of operation bytes and of a schedule
+abbrev pub operationRight : ℕ → List ℕ → ℕ → Bool
+operationRight keys bytes p = allowed keys (getD bytes p 0)
+
+abbrev pub stepRight : ℕ → List ℕ → ℕ → Bool
+stepRight threads bytes p = ltb (getD bytes p 0) threads
+
+-- count i of a list of counts
+abbrev pub countOf : List ℕ → ℕ → ℕ
+countOf counts i = getD counts i 0
 
 -- the contents entries of bodies of these counts, the first at `at`: each next one starts where the last ended
 unfoldable pub entries : ℕ → List ℕ → List ℕ

@@ -1,12 +1,12 @@
 -- What reading a file answers: document 01's table, row by row.
-use Prim.Native.Nat.{ℕ, _+_, _-_, _*_}
+use Prim.Native.Nat.{ℕ, _+_, _-_}
 use mathlib.Core.List.{List, [], _∷_, _++_}
-use mathlib.Core.Bool.{Bool, true, false, not}
+use mathlib.Core.Bool.{Bool, not}
 use lib.ListN.{length, getD, replicate}
 use lib.Dec.{ltb, eqb}
 use Rattle.figures.specs.Limits.{mostThreads, mostKeys, mostOperations, mostSteps}
-use Rattle.runfile.specs.Rows.{pick, Row, decide, outside, firstBad, firstBadIn, sumTo, listFrom}
-use Rattle.runfile.specs.Layout.{entryAt, bodyAt, offsetIn, countIn, allowed}
+use Rattle.runfile.specs.Rows.{Row, row, decide, outside, firstBadIn, sumTo, listFrom}
+use Rattle.runfile.specs.Layout.{entryAt, bodyAt, offsetIn, countIn, operationRight, stepRight}
 use Rattle.runfile.specs.declared.Reading.{Reading}
 
 abbrev pub threadsIn : List ℕ → ℕ
@@ -29,12 +29,6 @@ scheduleIn f = offsetIn f (threadsIn f)
 abbrev pub offsetRight : List ℕ → ℕ → Bool
 offsetRight f i = eqb (offsetIn f i) (bodyAt (threadsIn f) + sumTo (countIn f) i)
 
-abbrev pub operationRight : ℕ → List ℕ → ℕ → Bool
-operationRight keys bytes p = allowed keys (getD bytes p 0)
-
-abbrev pub stepRight : ℕ → List ℕ → ℕ → Bool
-stepRight threads bytes p = ltb (getD bytes p 0) threads
-
 -- the first entry, operation byte and schedule byte that is wrong, or where they end
 abbrev pub wrongEntry : List ℕ → ℕ
 wrongEntry f = firstBadIn (offsetRight f) 0 (threadsIn f + 1)
@@ -44,9 +38,6 @@ wrongOperation f = firstBadIn (operationRight (keysIn f) f) (bodyAt (threadsIn f
 
 abbrev pub wrongStep : List ℕ → ℕ
 wrongStep f = firstBadIn (stepRight (threadsIn f) f) (scheduleIn f) (scheduleIn f + stepsIn f)
-
-abbrev pub row : ℕ → Bool → ℕ → Row
-row n b p = record { number = n; applies = b; place = p }
 
 abbrev pub bodyRows : List ℕ → List Row
 bodyRows f =

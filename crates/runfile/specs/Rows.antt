@@ -2,6 +2,7 @@
 -- the first place where a test fails and the sum of the first few numbers.
 use Prim.Native.Nat.{ℕ, zero, suc, _+_, _-_}
 use mathlib.Core.List.{List, [], _∷_}
+use mathlib.Core.Path.{_≡_}
 use mathlib.Core.Bool.{Bool, true, false}
 use lib.Dec.{ltb}
 
@@ -14,6 +15,9 @@ pub record Row : Type 0 where
   pub number : ℕ
   pub applies : Bool
   pub place : ℕ
+
+abbrev pub row : ℕ → Bool → ℕ → Row
+row n b p = record { number = n; applies = b; place = p }
 
 -- The first row that applies refuses, with its number and its place; where none does, the input is accepted.
 abbrev pub decide : {A : Type 0} → (ℕ → ℕ → A) → A → List Row → A
@@ -42,3 +46,15 @@ sumTo f (suc n) = sumTo f n + f n
 unfoldable pub listFrom : (ℕ → ℕ) → ℕ → ℕ → List ℕ
 listFrom f zero i = []
 listFrom f (suc n) i = f i ∷ listFrom f n (i + 1)
+
+-- ---- to speak of what decided
+
+-- no row applies
+abbrev pub Passes : List Row → Type 0
+Passes [] = Unit
+Passes (r ∷ rs) = (r .applies ≡ false) × Passes rs
+
+-- the first row that applies has this number and this place
+pub data Stops : List Row → ℕ → ℕ → Type 0 where
+  here : {r : Row} {rs : List Row} → r .applies ≡ true → Stops (r ∷ rs) (r .number) (r .place)
+  later : {r : Row} {rs : List Row} {n p : ℕ} → r .applies ≡ false → Stops rs n p → Stops (r ∷ rs) n p

@@ -1,13 +1,15 @@
-// The run file (document 01): read, with its refusals.
+// The run file (document 01): reading it and writing it, by one layout.
 use figures::Machine;
 ghost use mathlib.Core.Path.{_≡_};
 ghost use mathlib.Core.Bool.{Bool, true, false};
-ghost use mathlib.Core.List.{_++_};
+ghost use mathlib.Core.List.{[], _∷_, _++_};
 ghost use Prim.Native.Nat.{ℕ, _+_, _-_, _*_, _/_, _%_, _≤_, _<_};
 ghost use lib.ListN.{length, getD, replicate};
-ghost use Rattle.runfile.specs.Rows.{outside, firstBad, firstBadIn, sumTo, listFrom, decide};
-ghost use Rattle.runfile.specs.Layout.{wordAt, entryAt, bodyAt, offsetIn, countIn, allowed};
-ghost use Rattle.runfile.specs.Read.{threadsIn, keysIn, operationsIn, stepsIn, scheduleIn, offsetRight, operationRight, stepRight, wrongEntry, refused, countsIn, accepted, bodyRows, tableRows, readOf};
+ghost use lib.Seq.{sets};
+ghost use Rattle.runfile.specs.Rows.{outside, firstBadIn, sumTo, listFrom, decide};
+ghost use Rattle.runfile.specs.Layout.{wordAt, entryAt, bodyAt, countIn, allowed, operationRight, stepRight, countOf, entries, fileOf};
+ghost use Rattle.runfile.specs.Read.{threadsIn, operationsIn, stepsIn, scheduleIn, wrongEntry, refused, accepted, bodyRows, tableRows, readOf};
+ghost use Rattle.runfile.specs.Write.{disagree, unwritten, written, writerBodyRows, writeOf, writtenOf};
 
 // What reading answers: number 0 where the file is accepted, else the refusal's number and place, and every other number 0.
 pub struct Reading {
@@ -20,6 +22,13 @@ pub struct Reading {
     pub operations: usize,
     pub schedule_at: usize,
     pub steps: usize,
+}
+
+// What writing answers: number 0 and the file's length, or the refusal's number and place, and length 0.
+pub struct Writing {
+    pub number: u32,
+    pub place: usize,
+    pub length: usize,
 }
 
 fn wide(x: u8) -> usize
@@ -235,4 +244,198 @@ pub fn read(file: &[u8]) -> Reading
         return refusal(4, 0);
     }
     read_table(file)
+}
+
+// ---- The writer.
+
+fn wide_count(x: u16) -> usize
+    ensures { λ r. ⌜ r ≡ x ⌝ }
+    ensures { λ r. ⌜ r < 65536 ⌝ }
+{
+    x as usize
+}
+
+// The sum of a list of counts.
+fn sum_list(counts: &[u16]) -> usize
+    requires { ⌜ length (now counts) ≤ 8 ⌝ }
+    ensures { λ r. ⌜ r ≡ sumTo (countOf (now (counts .entry))) (length (now (counts .entry))) ⌝ }
+{
+    let mut sum: usize = 0;
+    let mut i: usize = 0;
+    while i < counts.len() {
+        sum = sum + wide_count(counts[i]);
+        i = i + 1;
+    }
+    sum
+}
+
+// Whether there are not so many counts as threads, or their sum is not the number of operations. The counts are summed only
+// where they are few, so that the sum fits.
+fn is_disagreeing(threads: u8, counts: &[u16], operations: usize) -> bool
+    requires { ⌜ threads ≤ 8 ⌝ }
+    ensures { λ r. ⌜ r ≡ disagree threads (now (counts .entry)) operations ⌝ }
+{
+    if counts.len() != wide(threads) {
+        return true;
+    }
+    sum_list(counts) != operations
+}
+
+fn not_written(number: u32, place: usize) -> Writing
+    ensures { λ r. ⌜ r ≡ unwritten number place ⌝ }
+{
+    Writing {
+        number,
+        place,
+        length: 0,
+    }
+}
+
+// The writer's last rows, 9, 10 and 11, of contents that are few enough.
+fn judge_bodies(
+    threads: u8,
+    keys: u8,
+    counts: &[u16],
+    operations: &[u8],
+    schedule: &[u8],
+    room: usize,
+) -> Writing
+    requires { ⌜ (length (now counts) ≡ threads) × (threads ≤ 8) × (length (now operations) ≤ 64) × (length (now schedule) ≤ 4096) ⌝ }
+    ensures { λ r. ⌜ r ≡ decide unwritten (written threads keys (now (counts .entry)) (now (operations .entry)) (now (schedule .entry)) room)
+        (writerBodyRows threads keys (now (counts .entry)) (now (operations .entry)) (now (schedule .entry)) room) ⌝ }
+{
+    let operation = wrong_operation(operations, keys, 0, operations.len());
+    if operation < operations.len() {
+        return not_written(9, operation);
+    }
+    let step = wrong_step(schedule, threads, 0, schedule.len());
+    if step < schedule.len() {
+        return not_written(10, step);
+    }
+    let length = 2 + 4 * (counts.len() + 1) + operations.len() + schedule.len();
+    if room < length {
+        return not_written(11, 0);
+    }
+    Writing {
+        number: 0,
+        place: 0,
+        length,
+    }
+}
+
+// The writer's answer, before anything is written.
+fn judge(
+    threads: u8,
+    keys: u8,
+    counts: &[u16],
+    operations: &[u8],
+    schedule: &[u8],
+    room: usize,
+) -> Writing
+    ensures { λ r. ⌜ r ≡ writeOf threads keys (now (counts .entry)) (now (operations .entry)) (now (schedule .entry)) room ⌝ }
+{
+    if is_outside(threads, Machine::THREADS) {
+        return not_written(2, 0);
+    }
+    if is_outside(keys, Machine::KEYS) {
+        return not_written(3, 0);
+    }
+    if is_disagreeing(threads, counts, operations.len()) {
+        return not_written(12, 0);
+    }
+    if Machine::OPERATIONS < operations.len() {
+        return not_written(6, 0);
+    }
+    if Machine::STEPS < schedule.len() {
+        return not_written(7, 0);
+    }
+    judge_bodies(threads, keys, counts, operations, schedule, room)
+}
+
+fn low(x: usize) -> u8
+    ensures { λ r. ⌜ r ≡ x % 256 ⌝ }
+{
+    (x % 256) as u8
+}
+
+fn high(x: usize) -> u8
+    requires { ⌜ x < 65536 ⌝ }
+    ensures { λ r. ⌜ r ≡ x / 256 ⌝ }
+{
+    (x / 256) as u8
+}
+
+// One contents entry, at p: where the body is, and how long.
+fn put_entry(out: &mut [u8], p: usize, offset: usize, count: usize)
+    requires { ⌜ (p + 4 ≤ length (now out)) × (offset < 65536) × (count < 65536) ⌝ }
+    ensures { λ r. ⌜ now (out .exit) ≡ sets (now (out .entry)) p (entries offset (count ∷ [])) ⌝ }
+{
+    out[p] = low(offset);
+    out[p + 1] = high(offset);
+    out[p + 2] = low(count);
+    out[p + 3] = high(count);
+}
+
+// An entry for each count, the first body at `body`.
+fn put_entries(out: &mut [u8], counts: &[u16], body: usize)
+    requires { ⌜ (length (now counts) ≤ 8) × (entryAt (length (now counts)) ≤ length (now out)) × (body + sumTo (countOf (now counts)) (length (now counts)) < 65536) ⌝ }
+    ensures { λ r. ⌜ now (out .exit) ≡ sets (now (out .entry)) 2 (entries body (now (counts .entry))) ⌝ }
+{
+    let mut offset = body;
+    let mut i: usize = 0;
+    while i < counts.len() {
+        let count = wide_count(counts[i]);
+        put_entry(out, 2 + 4 * i, offset, count);
+        offset = offset + count;
+        i = i + 1;
+    }
+}
+
+// The bytes of a body, from `from` on.
+fn put_bytes(out: &mut [u8], from: usize, bytes: &[u8])
+    requires { ⌜ from + length (now bytes) ≤ length (now out) ⌝ }
+    ensures { λ r. ⌜ now (out .exit) ≡ sets (now (out .entry)) from (now (bytes .entry)) ⌝ }
+{
+    let mut i: usize = 0;
+    while i < bytes.len() {
+        out[from + i] = bytes[i];
+        i = i + 1;
+    }
+}
+
+// The whole file, of contents that are right, where there is room.
+fn fill(threads: u8, keys: u8, counts: &[u16], operations: &[u8], schedule: &[u8], out: &mut [u8])
+    requires { ⌜ (length (now counts) ≡ threads) × (threads ≤ 8) × (length (now operations) ≤ 64) × (length (now schedule) ≤ 4096)
+        × (sumTo (countOf (now counts)) (length (now counts)) ≡ length (now operations))
+        × (length (fileOf threads keys (now counts) (now operations) (now schedule)) ≤ length (now out)) ⌝ }
+    ensures { λ r. ⌜ now (out .exit) ≡ sets (now (out .entry)) 0 (fileOf threads keys (now (counts .entry)) (now (operations .entry)) (now (schedule .entry))) ⌝ }
+{
+    let body = 2 + 4 * (counts.len() + 1);
+    let end = body + operations.len();
+    out[0] = threads;
+    out[1] = keys;
+    put_entries(out, counts, body);
+    put_entry(out, 2 + 4 * counts.len(), end, schedule.len());
+    put_bytes(out, body, operations);
+    put_bytes(out, end, schedule);
+}
+
+// Writes a run file into `out` and answers its length; or refuses, and writes nothing.
+pub fn write(
+    threads: u8,
+    keys: u8,
+    counts: &[u16],
+    operations: &[u8],
+    schedule: &[u8],
+    out: &mut [u8],
+) -> Writing
+    ensures { λ r. ⌜ r ≡ writeOf threads keys (now (counts .entry)) (now (operations .entry)) (now (schedule .entry)) (length (now (out .entry))) ⌝ }
+    ensures { λ r. ⌜ now (out .exit) ≡ sets (now (out .entry)) 0
+        (writtenOf threads keys (now (counts .entry)) (now (operations .entry)) (now (schedule .entry)) (length (now (out .entry)))) ⌝ }
+{
+    let answer = judge(threads, keys, counts, operations, schedule, out.len());
+    if answer.number == 0 {
+        fill(threads, keys, counts, operations, schedule, out);
+    }
+    answer
 }

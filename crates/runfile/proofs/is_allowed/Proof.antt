@@ -1,10 +1,6 @@
 use borrow.Author.Tests.{lt-ltb, le-ltb}
-use native.Mathlib.Omega.{arith}
-use borrow.Author.Needs.{needs}
 use Rattle.runfile.proofs.is_allowed.Statement.{statement}
 use Rattle.runfile.proofs.is_allowed.Tie as tie
-use Rattle.runfile.proofs.is_allowed.Reads as reads
-use Rattle.runfile.proofs.is_allowed.Lts as lts
 
 returns : tie.Need-returns
 returns c = simp (lt-ltb _ _ (c .if1 .taken))

@@ -1,24 +1,13 @@
-use Prim.Native.Nat.{ℕ, _+_, _-_, _≤_, _<_}
-use mathlib.Core.Path.{_≡_, refl, sym, ap, _∙_}
-use mathlib.Core.Bool.{true, false, not}
+use mathlib.Core.Path.{sym, _∙_}
 use lib.ListN.{length}
-use lib.Dec.{ltb, eqb}
-use borrow.Author.Tests.{lt-ltb, le-ltb, eq-eqb, ne-eqb, eqb-true}
-use Rattle.figures.specs.Limits.{mostThreads, mostKeys, mostOperations, mostSteps}
-use Rattle.runfile.specs.Rows.{outside, sumTo}
-use Rattle.runfile.specs.Layout.{entryAt, bodyAt, countIn}
-use Rattle.runfile.specs.Read.{refused, offsetRight, threadsIn, keysIn, operationsIn, stepsIn, scheduleIn, wrongEntry, wrongOperation, wrongStep}
-use Rattle.runfile.proofs.Laws.{first-before, inside}
+use borrow.Author.Tests.{lt-ltb, le-ltb}
+use Rattle.runfile.specs.Layout.{bodyAt}
+use Rattle.runfile.specs.Read.{threadsIn}
+use Rattle.runfile.proofs.Laws.{inside}
 use native.Mathlib.Omega.{arith}
 use borrow.Author.Needs.{needs}
 use Rattle.runfile.proofs.read.Statement.{statement}
 use Rattle.runfile.proofs.read.Tie as tie
-use Rattle.runfile.proofs.read.Reads as reads
-use Rattle.runfile.proofs.read.Lts as lts
-use Rattle.runfile.proofs.is_outside.Reads as is-outside-reads
-use Rattle.runfile.proofs.read_table.Reads as read-table-reads
-use Rattle.runfile.proofs.refusal.Reads as refusal-reads
-use Rattle.runfile.proofs.wide.Reads as wide-reads
 
 refusal-requires : tie.Need-refusal-requires
 refusal-requires c κs = search needs

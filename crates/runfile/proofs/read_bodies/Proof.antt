@@ -1,25 +1,11 @@
-use Prim.Native.Nat.{ℕ, _+_, _-_, _≤_, _<_}
-use mathlib.Core.Path.{_≡_, refl, sym, ap, _∙_}
-use mathlib.Core.Bool.{true, false, not}
-use lib.ListN.{length}
-use lib.Dec.{ltb, eqb}
-use borrow.Author.Tests.{lt-ltb, le-ltb, eq-eqb, ne-eqb, eqb-true}
-use Rattle.figures.specs.Limits.{mostThreads, mostKeys, mostOperations, mostSteps}
-use Rattle.runfile.specs.Rows.{outside, sumTo}
-use Rattle.runfile.specs.Layout.{entryAt, bodyAt, countIn}
-use Rattle.runfile.specs.Read.{refused, offsetRight, threadsIn, keysIn, operationsIn, stepsIn, scheduleIn, wrongEntry, wrongOperation, wrongStep}
-use Rattle.runfile.proofs.Laws.{first-before, inside}
+use Prim.Native.Nat.{_+_}
+use mathlib.Core.Path.{_≡_, ap, _∙_}
+use borrow.Author.Tests.{lt-ltb, le-ltb}
+use Rattle.runfile.specs.Read.{refused, stepsIn, scheduleIn, wrongOperation, wrongStep}
 use native.Mathlib.Omega.{arith}
 use borrow.Author.Needs.{needs}
 use Rattle.runfile.proofs.read_bodies.Statement.{statement}
 use Rattle.runfile.proofs.read_bodies.Tie as tie
-use Rattle.runfile.proofs.read_bodies.Reads as reads
-use Rattle.runfile.proofs.read_bodies.Lts as lts
-use Rattle.runfile.proofs.refusal.Reads as refusal-reads
-use Rattle.runfile.proofs.take_counts.Reads as take-counts-reads
-use Rattle.runfile.proofs.wide.Reads as wide-reads
-use Rattle.runfile.proofs.wrong_operation.Reads as wrong-operation-reads
-use Rattle.runfile.proofs.wrong_step.Reads as wrong-step-reads
 
 shared-slice-read-threads : tie.Need-shared-slice-read-threads
 shared-slice-read-threads c = search needs

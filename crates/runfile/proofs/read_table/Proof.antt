@@ -1,26 +1,15 @@
-use Prim.Native.Nat.{ℕ, _+_, _-_, _≤_, _<_}
-use mathlib.Core.Path.{_≡_, refl, sym, ap, _∙_}
-use mathlib.Core.Bool.{true, false, not}
+use Prim.Native.Nat.{ℕ, _+_, _-_}
+use mathlib.Core.Path.{_≡_, ap, _∙_}
 use lib.ListN.{length}
-use lib.Dec.{ltb, eqb}
 use borrow.Author.Tests.{lt-ltb, le-ltb, eq-eqb, ne-eqb, eqb-true}
-use Rattle.figures.specs.Limits.{mostThreads, mostKeys, mostOperations, mostSteps}
-use Rattle.runfile.specs.Rows.{outside, sumTo}
-use Rattle.runfile.specs.Layout.{entryAt, bodyAt, countIn}
-use Rattle.runfile.specs.Read.{refused, offsetRight, threadsIn, keysIn, operationsIn, stepsIn, scheduleIn, wrongEntry, wrongOperation, wrongStep}
-use Rattle.runfile.proofs.Laws.{first-before, inside}
+use Rattle.figures.specs.Limits.{mostOperations, mostSteps}
+use Rattle.runfile.specs.Layout.{entryAt, bodyAt}
+use Rattle.runfile.specs.Read.{refused, offsetRight, threadsIn, operationsIn, stepsIn, scheduleIn, wrongEntry}
+use Rattle.runfile.proofs.Laws.{first-before}
 use native.Mathlib.Omega.{arith}
 use borrow.Author.Needs.{needs}
 use Rattle.runfile.proofs.read_table.Statement.{statement}
 use Rattle.runfile.proofs.read_table.Tie as tie
-use Rattle.runfile.proofs.read_table.Reads as reads
-use Rattle.runfile.proofs.read_table.Lts as lts
-use Rattle.runfile.proofs.read_bodies.Reads as read-bodies-reads
-use Rattle.runfile.proofs.refusal.Reads as refusal-reads
-use Rattle.runfile.proofs.sum_counts.Reads as sum-counts-reads
-use Rattle.runfile.proofs.wide.Reads as wide-reads
-use Rattle.runfile.proofs.word.Reads as word-reads
-use Rattle.runfile.proofs.wrong_entry.Reads as wrong-entry-reads
 
 shared-slice-read-wide : tie.Need-shared-slice-read-wide
 shared-slice-read-wide c = search needs

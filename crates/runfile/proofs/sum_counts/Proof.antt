@@ -1,21 +1,12 @@
-use Prim.Native.Nat.{_+_, _-_, _*_, _≤_}
-use mathlib.Core.Path.{_≡_, refl, sym, _∙_}
-use mathlib.Core.List.{_++_}
-use native.Mathlib.Nat.{sub-zero}
-use borrow.Author.Tests.{lt-ltb, le-ltb, eq-eqb, ne-eqb}
-use lib.ListN.{length, length-set, replicate}
-use lib.Seq.{sets}
-use Rattle.runfile.specs.Rows.{firstBadIn, sumTo, listFrom}
-use Rattle.runfile.specs.Layout.{bodyAt, countIn}
-use Rattle.runfile.specs.Read.{threadsIn, offsetRight, operationRight, stepRight, wrongEntry}
-use Rattle.runfile.proofs.Laws.{bad-on, bad-off, bad-end, sum-on, list-on, list-end, length-list, padded}
+use Prim.Native.Nat.{_-_, _*_, _≤_}
+use mathlib.Core.Path.{_≡_, refl}
+use Rattle.runfile.specs.Rows.{sumTo}
+use Rattle.runfile.specs.Layout.{countIn}
+use Rattle.runfile.proofs.Laws.{sum-on}
 use native.Mathlib.Omega.{arith}
 use borrow.Author.Needs.{needs}
 use Rattle.runfile.proofs.sum_counts.Statement.{statement}
 use Rattle.runfile.proofs.sum_counts.Tie as tie
-use Rattle.runfile.proofs.sum_counts.Reads as reads
-use Rattle.runfile.proofs.sum_counts.Lts as lts
-use Rattle.runfile.proofs.word.Reads as word-reads
 
 abbrev Inv-loop : tie.InvT-loop
 Inv-loop file n sum₀ i₀ sum i =

@@ -1,21 +1,14 @@
 use Prim.Native.Nat.{_+_, _-_, _*_, _≤_}
-use mathlib.Core.Path.{_≡_, refl, sym, _∙_}
-use mathlib.Core.List.{_++_}
-use native.Mathlib.Nat.{sub-zero}
-use borrow.Author.Tests.{lt-ltb, le-ltb, eq-eqb, ne-eqb}
-use lib.ListN.{length, length-set, replicate}
-use lib.Seq.{sets}
-use Rattle.runfile.specs.Rows.{firstBadIn, sumTo, listFrom}
+use mathlib.Core.Path.{_≡_, sym, _∙_}
+use borrow.Author.Tests.{eq-eqb, ne-eqb}
+use Rattle.runfile.specs.Rows.{firstBadIn, sumTo}
 use Rattle.runfile.specs.Layout.{bodyAt, countIn}
-use Rattle.runfile.specs.Read.{threadsIn, offsetRight, operationRight, stepRight, wrongEntry}
-use Rattle.runfile.proofs.Laws.{bad-on, bad-off, bad-end, sum-on, list-on, list-end, length-list, padded}
+use Rattle.runfile.specs.Read.{threadsIn, offsetRight, wrongEntry}
+use Rattle.runfile.proofs.Laws.{bad-on, bad-off, bad-end, sum-on}
 use native.Mathlib.Omega.{arith}
 use borrow.Author.Needs.{needs}
 use Rattle.runfile.proofs.wrong_entry.Statement.{statement}
 use Rattle.runfile.proofs.wrong_entry.Tie as tie
-use Rattle.runfile.proofs.wrong_entry.Reads as reads
-use Rattle.runfile.proofs.wrong_entry.Lts as lts
-use Rattle.runfile.proofs.word.Reads as word-reads
 
 abbrev Inv-loop : tie.InvT-loop
 Inv-loop file n i₀ end₀ i end =

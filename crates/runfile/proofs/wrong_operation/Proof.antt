@@ -1,21 +1,12 @@
-use Prim.Native.Nat.{_+_, _-_, _*_, _≤_}
-use mathlib.Core.Path.{_≡_, refl, sym, _∙_}
-use mathlib.Core.List.{_++_}
-use native.Mathlib.Nat.{sub-zero}
+use Prim.Native.Nat.{_-_, _≤_}
+use mathlib.Core.Path.{_≡_, sym, _∙_}
 use borrow.Author.Tests.{not-true, not-false}
-use lib.ListN.{length, length-set, replicate}
-use lib.Seq.{sets}
-use Rattle.runfile.specs.Rows.{firstBadIn, sumTo, listFrom}
-use Rattle.runfile.specs.Layout.{bodyAt, countIn}
-use Rattle.runfile.specs.Read.{threadsIn, offsetRight, operationRight, stepRight, wrongEntry}
-use Rattle.runfile.proofs.Laws.{bad-on, bad-off, bad-end, sum-on, list-on, list-end, length-list, padded}
-use native.Mathlib.Omega.{arith}
+use Rattle.runfile.specs.Rows.{firstBadIn}
+use Rattle.runfile.specs.Layout.{operationRight}
+use Rattle.runfile.proofs.Laws.{bad-on, bad-off, bad-end}
 use borrow.Author.Needs.{needs}
 use Rattle.runfile.proofs.wrong_operation.Statement.{statement}
 use Rattle.runfile.proofs.wrong_operation.Tie as tie
-use Rattle.runfile.proofs.wrong_operation.Reads as reads
-use Rattle.runfile.proofs.wrong_operation.Lts as lts
-use Rattle.runfile.proofs.is_allowed.Reads as is-allowed-reads
 
 abbrev Inv-loop : tie.InvT-loop
 Inv-loop bytes keys from end p₀ p =

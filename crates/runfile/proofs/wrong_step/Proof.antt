@@ -1,20 +1,12 @@
-use Prim.Native.Nat.{_+_, _-_, _*_, _≤_}
-use mathlib.Core.Path.{_≡_, refl, sym, _∙_}
-use mathlib.Core.List.{_++_}
-use native.Mathlib.Nat.{sub-zero}
-use borrow.Author.Tests.{lt-ltb, le-ltb, eq-eqb, ne-eqb}
-use lib.ListN.{length, length-set, replicate}
-use lib.Seq.{sets}
-use Rattle.runfile.specs.Rows.{firstBadIn, sumTo, listFrom}
-use Rattle.runfile.specs.Layout.{bodyAt, countIn}
-use Rattle.runfile.specs.Read.{threadsIn, offsetRight, operationRight, stepRight, wrongEntry}
-use Rattle.runfile.proofs.Laws.{bad-on, bad-off, bad-end, sum-on, list-on, list-end, length-list, padded}
-use native.Mathlib.Omega.{arith}
+use Prim.Native.Nat.{_-_, _≤_}
+use mathlib.Core.Path.{_≡_, sym, _∙_}
+use borrow.Author.Tests.{lt-ltb, le-ltb}
+use Rattle.runfile.specs.Rows.{firstBadIn}
+use Rattle.runfile.specs.Layout.{stepRight}
+use Rattle.runfile.proofs.Laws.{bad-on, bad-off, bad-end}
 use borrow.Author.Needs.{needs}
 use Rattle.runfile.proofs.wrong_step.Statement.{statement}
 use Rattle.runfile.proofs.wrong_step.Tie as tie
-use Rattle.runfile.proofs.wrong_step.Reads as reads
-use Rattle.runfile.proofs.wrong_step.Lts as lts
 
 abbrev Inv-loop : tie.InvT-loop
 Inv-loop bytes threads from end p₀ p =

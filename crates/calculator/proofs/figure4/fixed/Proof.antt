@@ -1,0 +1,22 @@
+use lib.ListN.{length-map}
+use Rattle.calculator.proofs.Beyond.{set-beyond}
+use borrow.Author.Tests.{le-ltb}
+use borrow.Author.Needs.{needs}
+use Rattle.calculator.proofs.figure4.fixed.Statement.{statement}
+use Rattle.calculator.proofs.figure4.fixed.Tie as tie
+
+pub fixed-spec : {M : Type 1} → statement M
+fixed-spec =
+    tie.close
+    (tie.spec
+    (λ c. search needs)
+    (λ c. search needs)
+    (λ c. search needs)
+    (λ c. search needs)
+    (λ c. search needs)
+    (λ c. search needs)
+    (λ c. search needs)
+    (λ c. search needs)
+    (λ c. search needs)
+    (λ c. search needs)
+    (λ c. simp (set-beyond (c .before .before .args .t1 .snapshots) (c .before .before .args .n .0) 65 (simp length-map at (c .before .before .good .0 .1 .1 .1 .1 .0 .1 .0 .1)) (c .if1 .left), set-beyond (c .before .before .args .t1 .traces) (c .before .before .args .n .0) 65 (simp length-map at (c .before .before .good .0 .1 .1 .1 .1 .1 .0 .1 .0 .1)) (c .if1 .left))))

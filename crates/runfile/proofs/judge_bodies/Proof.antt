@@ -1,0 +1,98 @@
+use mathlib.Core.Path.{ap, _∙_}
+use lib.ListN.{length}
+use borrow.Author.Tests.{lt-ltb, le-ltb}
+use Rattle.runfile.specs.Layout.{operationRight, stepRight, fileOf}
+use Rattle.runfile.specs.Write.{unwritten, wrongIn}
+use Rattle.runfile.proofs.File.{length-file}
+use native.Mathlib.Omega.{arith}
+use borrow.Author.Needs.{needs}
+use Rattle.runfile.proofs.judge_bodies.Statement.{statement}
+use Rattle.runfile.proofs.judge_bodies.Tie as tie
+
+wrong-operation-requires : tie.Need-wrong-operation-requires
+wrong-operation-requires c κs = search needs
+
+not-written-requires : tie.Need-not-written-requires
+not-written-requires c κs = search needs
+
+returns : tie.Need-returns
+returns c =
+    let o = c .before .before .before .before .before .before in
+    let ops = o .args .operations .now in
+    let steps = o .args .schedule .now in
+    let on = lt-ltb (wrongIn (operationRight (o .args .keys) ops) ops) (length ops) (omega arith) in
+    simp on (c .not-written .ensures ∙ ap (unwritten 9) (c .before .before .wrong-operation .ensures))
+
+wrong-step-requires : tie.Need-wrong-step-requires
+wrong-step-requires c κs = search needs
+
+not-written-requires-2 : tie.Need-not-written-requires-2
+not-written-requires-2 c κs = search needs
+
+returns-2 : tie.Need-returns-2
+returns-2 c =
+    let o = c .before .before .before .before .before .before .before .before in
+    let ops = o .args .operations .now in
+    let steps = o .args .schedule .now in
+    let past9 = le-ltb (wrongIn (operationRight (o .args .keys) ops) ops) (length ops) (omega arith) in
+    let on = lt-ltb (wrongIn (stepRight (o .args .threads) steps) steps) (length steps) (omega arith) in
+    simp (past9, on) (c .not-written2 .ensures ∙ ap (unwritten 10) (c .before .before .wrong-step .ensures))
+
+add-length : tie.Need-add-length
+add-length c = search needs
+
+mul-length : tie.Need-mul-length
+mul-length c = search needs
+
+add-length-2 : tie.Need-add-length-2
+add-length-2 c = search needs
+
+add-length-3 : tie.Need-add-length-3
+add-length-3 c = search needs
+
+add-length-4 : tie.Need-add-length-4
+add-length-4 c = search needs
+
+not-written-requires-3 : tie.Need-not-written-requires-3
+not-written-requires-3 c κs = search needs
+
+returns-3 : tie.Need-returns-3
+returns-3 c =
+    let o = c .before .before .before .before .before .before .before .before .before in
+    let ops = o .args .operations .now in
+    let steps = o .args .schedule .now in
+    let past9 = le-ltb (wrongIn (operationRight (o .args .keys) ops) ops) (length ops) (omega arith) in
+    let past10 = le-ltb (wrongIn (stepRight (o .args .threads) steps) steps) (length steps) (omega arith) in
+    let e = length-file (o .args .threads) (o .args .keys) (o .args .counts .now) ops steps (o .pre .0) in
+    let on = lt-ltb (o .args .room) (length (fileOf (o .args .threads) (o .args .keys) (o .args .counts .now) ops steps)) (omega arith) in
+    simp (past9, past10, on) (c .not-written3 .ensures)
+
+returns-4 : tie.Need-returns-4
+returns-4 c =
+    let o = c .before .before .before .before .before .before .before .before in
+    let ops = o .args .operations .now in
+    let steps = o .args .schedule .now in
+    let past9 = le-ltb (wrongIn (operationRight (o .args .keys) ops) ops) (length ops) (omega arith) in
+    let past10 = le-ltb (wrongIn (stepRight (o .args .threads) steps) steps) (length steps) (omega arith) in
+    let e = length-file (o .args .threads) (o .args .keys) (o .args .counts .now) ops steps (o .pre .0) in
+    let past11 = le-ltb (o .args .room) (length (fileOf (o .args .threads) (o .args .keys) (o .args .counts .now) ops steps)) (omega arith) in
+    simp (past9, past10, past11) (simp (e, o .pre .0))
+
+pub judge-bodies-spec : {M : Type 1} → statement M
+judge-bodies-spec =
+    tie.close
+    (tie.spec
+    wrong-operation-requires
+    not-written-requires
+    returns
+    wrong-step-requires
+    not-written-requires-2
+    returns-2
+    add-length
+    mul-length
+    add-length-2
+    add-length-3
+    add-length-4
+    not-written-requires-3
+    returns-3
+    returns-4)
