@@ -118,7 +118,7 @@ pub record Snaps (T x : ℕ) (w : World) : Type 0 where
 -- an update's window is the one snapshot that was being collected at its raising, 0 if there was none
 pub record InWindow (w : World) (u s : ℕ) : Type 0 where
   pub known : Known w s
-  pub after : w .ann s < w .raised u
+  pub after : w .ann s ≤ w .raised u
   pub before : 0 < w .closed s → w .raised u < w .closed s
 
 pub record Windows (w : World) : Type 0 where

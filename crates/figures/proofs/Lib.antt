@@ -1,4 +1,3 @@
-pub mod Worked
 pub mod Laws
 pub mod Runs
 pub mod Shape
@@ -38,3 +37,11 @@ pub mod OwnSize
 pub mod OwnSet
 pub mod Pass
 pub mod Main
+pub mod PlaceNumbers
+pub mod PlaceUpdates
+pub mod PlaceStands
+pub mod PlaceKeys
+pub mod PlaceAny
+pub mod PlaceSizes
+pub mod Conclude
+pub mod Demand

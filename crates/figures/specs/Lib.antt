@@ -7,6 +7,5 @@ pub mod Step
 pub mod Start
 pub mod Places
 pub mod Demand
-pub mod Worked
 pub mod Counts
 pub mod Ranges

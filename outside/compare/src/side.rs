@@ -1,0 +1,93 @@
+//! What both implementations answer, as numbers. A refusal has its number and place and 0 everywhere else; an acceptance has number 0.
+
+use plain::{Refusal, Snapshot};
+
+#[derive(Debug, Clone, Copy, PartialEq, Eq, Default)]
+pub struct Reading {
+    pub number: u32,
+    pub place: usize,
+    pub threads: u8,
+    pub keys: u8,
+    pub counts: [u16; 8],
+    pub operations_at: usize,
+    pub operations: usize,
+    pub schedule_at: usize,
+    pub steps: usize,
+}
+
+#[derive(Debug, Clone, Copy, PartialEq, Eq, Default)]
+pub struct Writing {
+    pub number: u32,
+    pub place: usize,
+    pub length: usize,
+}
+
+#[derive(Debug, Clone, Copy, PartialEq, Eq, Default)]
+pub struct Playing {
+    pub number: u32,
+    pub place: usize,
+    pub entries: usize,
+    pub idle: usize,
+    pub snapshots: usize,
+}
+
+/// The lists that the writer is given.
+#[derive(Debug, Clone, PartialEq, Eq)]
+pub struct Lists {
+    pub threads: u8,
+    pub keys: u8,
+    pub counts: Vec<u16>,
+    pub operations: Vec<u8>,
+    pub schedule: Vec<u8>,
+}
+
+/// One of the two implementations.
+pub trait Side: Sync {
+    fn read(&self, file: &[u8]) -> Reading;
+    fn write(&self, lists: &Lists, out: &mut [u8]) -> Writing;
+    fn run(&self, file: &[u8], results: &mut [u32], log: &mut [u32]) -> Playing;
+    fn run_lent(&self, file: &[u8], results: &mut [u32], log: &mut [u32], table: &mut [Snapshot]) -> Playing;
+}
+
+pub struct Plain;
+
+fn played(answer: Result<plain::Totals, Refusal>) -> Playing {
+    match answer {
+        Ok(t) => Playing { entries: t.entries, idle: t.idle, snapshots: t.snapshots, ..Playing::default() },
+        Err(r) => Playing { number: r.number, place: r.place, ..Playing::default() },
+    }
+}
+
+impl Side for Plain {
+    fn read(&self, file: &[u8]) -> Reading {
+        match plain::read(file) {
+            Ok(c) => Reading {
+                number: 0,
+                place: 0,
+                threads: c.threads,
+                keys: c.keys,
+                counts: c.counts,
+                operations_at: c.operations_at,
+                operations: c.operations,
+                schedule_at: c.schedule_at,
+                steps: c.steps,
+            },
+            Err(r) => Reading { number: r.number, place: r.place, ..Reading::default() },
+        }
+    }
+
+    fn write(&self, l: &Lists, out: &mut [u8]) -> Writing {
+        match plain::write(l.threads, l.keys, &l.counts, &l.operations, &l.schedule, out) {
+            Ok(length) => Writing { length, ..Writing::default() },
+            Err(r) => Writing { number: r.number, place: r.place, length: 0 },
+        }
+    }
+
+    fn run(&self, file: &[u8], results: &mut [u32], log: &mut [u32]) -> Playing {
+        played(plain::run(file, results, log))
+    }
+
+    fn run_lent(&self, file: &[u8], results: &mut [u32], log: &mut [u32], table: &mut [Snapshot]) -> Playing {
+        played(plain::run_lent(file, results, log, table))
+    }
+}
