@@ -5,6 +5,14 @@ use terms::OpId;
 use terms::SnapshotId;
 use terms::Target;
 use terms::ThreadId;
+ghost use mathlib.Core.Path.{_≡_};
+ghost use Prim.Native.Nat.{_<_, _%_};
+ghost use lib.ListN.{replicate};
+ghost use lib.Seq.{sets};
+ghost use Rattle.figures.specs.declared.Point.the-variants.{Idle};
+ghost use Rattle.figures.specs.Limits.{mostOperations};
+ghost use Rattle.figures.specs.Figure4.{blockOf};
+ghost use Rattle.figures.specs.Start.{calculatorStart, callOf, ownerOf, recordsOf, localsOf, startOf};
 
 // ---- Figures 4 to 6: the calculator.
 
@@ -266,6 +274,154 @@ pub struct Machine {
     pub records: [Record; 64],
 }
 
+// ---- Memory at the start.
+
+// An operation byte is kind × 64 + key.
+fn call_of(b: u8) -> Call
+    ensures { λ r. ⌜ r ≡ callOf b ⌝ }
+{
+    if b < 64 {
+        Call::Insert
+    } else {
+        if b < 128 {
+            Call::Delete
+        } else {
+            if b < 192 { Call::Contains } else { Call::Size }
+        }
+    }
+}
+
+// An operation that has not begun.
+fn unbegun(thread: u8, b: u8) -> Record
+    ensures { λ r. ⌜ r ≡ Rattle.figures.specs.Start.unbegun thread b ⌝ }
+{
+    let call = call_of(b);
+    Record {
+        asked: Asked {
+            thread: ThreadId(thread),
+            call: call,
+            key: b % 64,
+        },
+        outcome: Outcome {
+            answer: Machine::INVALID,
+            first: 0,
+            last: 0,
+            own: 0,
+        },
+        look: Look {
+            read: 0,
+            found: Content::Empty,
+        },
+        change: Change {
+            target: Target(0),
+            exchanged: 0,
+            raised: 0,
+            window: SnapshotId(0),
+        },
+        snapshot: SnapshotId(0),
+    }
+}
+
+fn wide(x: u16) -> usize
+    ensures { λ r. ⌜ (r ≡ x) × (r < 65536) ⌝ }
+{
+    x as usize
+}
+
+// The thread that has operation o: each thread's operations follow those of the thread before.
+fn owner_of(counts: [u16; 8], o: usize) -> u8
+    ensures { λ r. ⌜ r ≡ ownerOf counts o ⌝ }
+{
+    let mut left = o;
+    let mut i: usize = 0;
+    while i < 8 {
+        let c = wide(counts[i]);
+        if left < c {
+            return i as u8;
+        }
+        left -= c;
+        i += 1;
+    }
+    8
+}
+
+fn records_of(counts: [u16; 8], operations: &[u8]) -> [Record; 64]
+    ensures { λ r. ⌜ r ≡ sets (replicate mostOperations (Rattle.figures.specs.Start.unbegun 0 0)) 0 (recordsOf counts 0 (now (operations .entry))) ⌝ }
+{
+    let r = unbegun(0, 0);
+    let mut records = [r; 64];
+    let mut i = 0;
+    while i < 64 && i < operations.len() {
+        records[i] = unbegun(owner_of(counts, i), operations[i]);
+        i += 1;
+    }
+    records
+}
+
+// A thread between operations, before its first.
+fn local_of(first: usize, end: usize) -> Local
+    ensures { λ r. ⌜ r ≡ record { point = Idle; op = record { 0 = first % 256 }; end = record { 0 = end % 256 }; seen = blockOf 0 } ⌝ }
+{
+    let none = Counts {
+        insertions: 0,
+        deletions: 0,
+    };
+    let op = OpId((first % 256) as u8);
+    let e = OpId((end % 256) as u8);
+    Local {
+        point: Point::Idle,
+        op: op,
+        end: e,
+        seen: [none; 8],
+    }
+}
+
+fn locals_of(counts: [u16; 8]) -> [Local; 8]
+    ensures { λ r. ⌜ r ≡ localsOf 0 counts ⌝ }
+{
+    let l = local_of(0, 0);
+    let mut locals = [l; 8];
+    let mut first: usize = 0;
+    let mut i = 0;
+    while i < 8 {
+        let end = first + wide(counts[i]);
+        locals[i] = local_of(first, end);
+        first = end;
+        i += 1;
+    }
+    locals
+}
+
+// Counters 0; record 0 is announced and not collecting, all else INVALID.
+fn calculator_start() -> Calculator
+    ensures { λ r. ⌜ r ≡ calculatorStart ⌝ }
+{
+    let none = Counts {
+        insertions: 0,
+        deletions: 0,
+    };
+    let invalid = Counts {
+        insertions: Machine::INVALID,
+        deletions: Machine::INVALID,
+    };
+    let s = Snapshot {
+        cells: [invalid; 8],
+        collecting: false,
+        size: Machine::INVALID,
+    };
+    let t = Trace {
+        announced: 0,
+        closed: 0,
+        seen: [none; 8],
+    };
+    Calculator {
+        counters: [none; 8],
+        current: SnapshotId(0),
+        snapshots: [s; 65],
+        traces: [t; 65],
+    }
+}
+
 impl Machine {
     // The limits of document 01.
     pub const THREADS: u8 = 8;
@@ -277,4 +433,27 @@ impl Machine {
     pub const STEPS: usize = 4096;
     // A cell or a size that is not there yet; an answer that is not given yet.
     pub const INVALID: u32 = 4294967295;
+
+    // The state before the first step, of a run of so many threads and keys: one count per thread, and the operation bytes.
+    pub fn start(threads: u8, keys: u8, counts: [u16; 8], operations: &[u8]) -> Machine
+        ensures { λ r. ⌜ r ≡ startOf threads keys counts (now (operations .entry)) ⌝ }
+    {
+        let calculator = calculator_start();
+        let slot = Slot {
+            content: Content::Empty,
+        };
+        let slots = [slot; 16];
+        let locals = locals_of(counts);
+        let records = records_of(counts, operations);
+        Machine {
+            threads: threads,
+            keys: keys,
+            clock: 0,
+            idle: 0,
+            calculator: calculator,
+            slots: slots,
+            locals: locals,
+            records: records,
+        }
+    }
 }

@@ -11,6 +11,7 @@ use Rattle.runfile.specs.Rows.{sumTo, Passes}
 use Rattle.runfile.specs.Layout.{bodyAt, offsetIn, countIn, countOf, operationRight, stepRight}
 use Rattle.runfile.specs.Read.{threadsIn, keysIn, operationsIn, stepsIn, scheduleIn, countsIn, offsetRight, wrongEntry, wrongOperation, wrongStep, rows, refused, accepted, readOf}
 use Rattle.runfile.specs.Accepts.{Accepts}
+use Rattle.runfile.specs.declared.Reading.{Reading}
 use Rattle.runfile.proofs.Laws.{inside, first-before, sum-same, sum-zeros, list-at, length-list, zeros-at}
 use Rattle.runfile.proofs.Rows.{passed}
 use Rattle.runfile.proofs.Table.{read-passes}
@@ -21,6 +22,7 @@ module _ (f : List ℕ) (zero-told : readOf f .number ≡ 0) where
 
   -- an accepted reading is the whole of what an accepted file holds
   pub reads-accepted : readOf f ≡ accepted f
+  unfolding readOf
   reads-accepted = passed refused (accepted f) (rows f) passes
 
   threads-inside : (1 ≤ threadsIn f) × (threadsIn f ≤ mostThreads)
@@ -85,3 +87,8 @@ module _ (f : List ℕ) (zero-told : readOf f .number ≡ 0) where
 
   pub accepts : Accepts f (readOf f)
   accepts = subst (Accepts f) (sym reads-accepted) facts
+
+-- the same for a caller of `read`, by what it promises
+pub reading-accepts : (f : List ℕ) (r : Reading) → r ≡ readOf f → r .number ≡ 0 → Accepts f r
+reading-accepts f r e z =
+    subst (Accepts f) (sym e) (accepts f (ap (λ (x : Reading). x .number) (sym e) ∙ z))

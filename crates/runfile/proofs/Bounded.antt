@@ -103,6 +103,7 @@ module _ (f g : List ℕ) (long-f : longest < length f) (long-g : longest < leng
 
   -- so a reader that keeps the first `longest + 1` bytes of a longer input tells what its whole contents have
   pub long-same : readOf f ≡ readOf g
+  unfolding readOf
   long-same =
       alike refused (accepted f) (accepted g) 1 (drop 1 (rows f)) (drop 1 (rows g)) (le-ltb (length f) 2 (omega arith) ∙ sym (le-ltb (length g) 2 (omega arith))) refl
       (λ past1.

@@ -12,7 +12,7 @@ use Rattle.figures.specs.Limits.{mostThreads, mostOperations, mostSteps}
 use Rattle.runfile.specs.Rows.{sumTo, listFrom, Passes}
 use Rattle.runfile.specs.Layout.{wordAt, entryAt, bodyAt, offsetIn, countIn, countOf, operationRight, stepRight, entries, fileOf}
 use Rattle.runfile.specs.Read.{threadsIn, keysIn, operationsIn, stepsIn, scheduleIn, countsIn, accepted, readOf}
-use Rattle.runfile.specs.Write.{unwritten, written, wrongIn, writerRows}
+use Rattle.runfile.specs.Write.{nothing, unwritten, written, wrongIn, writerRows, writeOf, writtenOf}
 use Rattle.runfile.specs.Accepts.{Accepts}
 use Rattle.runfile.specs.Contents.{part, Bytes, Remade}
 use Rattle.runfile.specs.declared.Reading.{Reading}
@@ -151,17 +151,17 @@ module _ (f : List ℕ) (bytes : Bytes f) (zero-told : readOf f .number ≡ 0) w
   counts-taken = take-at (countsIn f) (replicate (mostThreads - threadsIn f) 0) (threadsIn f) (length-list (countIn f) (threadsIn f) 0)
 
   accepted-remade : (room : ℕ) → length f ≤ room → Remade f (accepted f) room
-  unfolding operations-of schedule-of
+  unfolding operations-of schedule-of writeOf writtenOf
   accepted-remade room h =
       let ps = writer-takes room h in
       record {
         answer =
             rw counts-taken
-            (passed unwritten (written (threadsIn f) (keysIn f) (countsIn f) operations-of schedule-of room) (writerRows (threadsIn f) (keysIn f) (countsIn f) operations-of schedule-of room) ps
+            (passed unwritten (written (threadsIn f) (keysIn f) (countsIn f) operations-of schedule-of) (writerRows (threadsIn f) (keysIn f) (countsIn f) operations-of schedule-of room) ps
             ∙ rw file-made);
         file =
             rw counts-taken
-            (passed (λ n p. []) (fileOf (threadsIn f) (keysIn f) (countsIn f) operations-of schedule-of) (writerRows (threadsIn f) (keysIn f) (countsIn f) operations-of schedule-of room) ps
+            (passed nothing (fileOf (threadsIn f) (keysIn f) (countsIn f) operations-of schedule-of) (writerRows (threadsIn f) (keysIn f) (countsIn f) operations-of schedule-of room) ps
             ∙ file-made);
       }
 

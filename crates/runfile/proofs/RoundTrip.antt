@@ -160,12 +160,13 @@ module _ (threads keys : ℕ) (counts operations schedule : List ℕ) (room : �
       → ReadsAs threads keys counts operations schedule
       (take (writeOf threads keys counts operations schedule room .length)
       (sets out 0 (writtenOf threads keys counts operations schedule room)))
+  unfolding writeOf
   written-reads-as out h =
       let fits = ready threads keys counts operations schedule room zero-told .5 in
       let e : take (writeOf threads keys counts operations schedule room .length)
       (sets out 0 (writtenOf threads keys counts operations schedule room))
       ≡ fileOf threads keys counts operations schedule =
-      rw (passed unwritten (written threads keys counts operations schedule room) (writerRows threads keys counts operations schedule room) passes, writes-file threads keys counts operations schedule room zero-told)
+      rw (passed unwritten (written threads keys counts operations schedule) (writerRows threads keys counts operations schedule room) passes, writes-file threads keys counts operations schedule room zero-told)
       (ap (take (length (fileOf threads keys counts operations schedule))) (sets-eq (fileOf threads keys counts operations schedule) out 0 (omega arith))
       ∙ take-at (fileOf threads keys counts operations schedule) _ (length (fileOf threads keys counts operations schedule)) refl) in
       rw e file-reads-as

@@ -159,6 +159,7 @@ module _ (f : List ℕ) where
 
   -- `read` gives n at p exactly where row n holds at p and no lower row holds
   pub refuses-lowest : (n p : ℕ) → 1 ≤ n → ((readOf f .number ≡ n) × (readOf f .place ≡ p)) ↔ Lowest f n p
+  unfolding readOf
   refuses-lowest n p one = (λ e. go (outcome (rows f)) (e .0) (e .1), back)
     where
       go : Passes (rows f) ⊎ ((n : ℕ) × (p : ℕ) × Stops (rows f) n p) → readOf f .number ≡ n → readOf f .place ≡ p → Lowest f n p
@@ -182,10 +183,12 @@ module _ (f : List ℕ) where
   numbered = omega arith
 
   pub read-passes : readOf f .number ≡ 0 → Passes (rows f)
+  unfolding readOf
   read-passes = number-passes refused (accepted f) (λ r. r .number) (λ n p. refl) (rows f) numbered
 
   -- it accepts exactly where no row holds
   pub accepts-none : (readOf f .number ≡ 0) ↔ ((n p : ℕ) → Refuses f n p → ⊥)
+  unfolding readOf
   accepts-none = (λ e n p x. passes-none (rows f) n p (read-passes e) (refuses-applies x), back)
     where
       back : ((n p : ℕ) → Refuses f n p → ⊥) → readOf f .number ≡ 0

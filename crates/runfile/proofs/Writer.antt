@@ -9,7 +9,7 @@ use borrow.Author.Tests.{ltb-false}
 use Rattle.figures.specs.Limits.{mostThreads, mostOperations, mostSteps}
 use Rattle.runfile.specs.Rows.{sumTo, Passes, Stops}
 use Rattle.runfile.specs.Layout.{countOf, fileOf}
-use Rattle.runfile.specs.Write.{unwritten, written, writerRows, writeOf, writtenOf}
+use Rattle.runfile.specs.Write.{nothing, unwritten, written, writerRows, writeOf, writtenOf}
 use Rattle.runfile.proofs.Laws.{inside, agreed}
 use Rattle.runfile.proofs.Rows.{Numbered, passed, stopped, number-passes, number-stops}
 
@@ -19,22 +19,24 @@ module _ (threads keys : ℕ) (counts operations schedule : List ℕ) (room : �
 
   pub writer-passes : writeOf threads keys counts operations schedule room .number ≡ 0
       → Passes (writerRows threads keys counts operations schedule room)
+  unfolding writeOf
   writer-passes =
-      number-passes unwritten (written threads keys counts operations schedule room) (λ w. w .number) (λ n p. refl)
+      number-passes unwritten (written threads keys counts operations schedule) (λ w. w .number) (λ n p. refl)
       (writerRows threads keys counts operations schedule room)
       numbered
 
   pub writer-stops : (writeOf threads keys counts operations schedule room .number ≡ 0 → ⊥)
       → (n : ℕ) × (p : ℕ) × Stops (writerRows threads keys counts operations schedule room) n p
+  unfolding writeOf
   writer-stops =
-      number-stops unwritten (written threads keys counts operations schedule room) (λ w. w .number) (λ n p. refl)
+      number-stops unwritten (written threads keys counts operations schedule) (λ w. w .number) (λ n p. refl)
       (writerRows threads keys counts operations schedule room)
       numbered
       refl
 
   -- what the filling of the output rests on
   pub ready : writeOf threads keys counts operations schedule room .number ≡ 0
-      → (length counts ≡ threads) × (threads ≤ 8) × (length operations ≤ 64) × (length schedule ≤ 4096)
+      → (length counts ≡ threads) × (threads ≤ mostThreads) × (length operations ≤ mostOperations) × (length schedule ≤ mostSteps)
       × (sumTo (countOf counts) (length counts) ≡ length operations)
       × (length (fileOf threads keys counts operations schedule) ≤ room)
   ready e =
@@ -50,11 +52,13 @@ module _ (threads keys : ℕ) (counts operations schedule : List ℕ) (room : �
 
   pub writes-file : writeOf threads keys counts operations schedule room .number ≡ 0
       → writtenOf threads keys counts operations schedule room ≡ fileOf threads keys counts operations schedule
+  unfolding writtenOf
   writes-file e =
-      passed (λ n p. []) (fileOf threads keys counts operations schedule) (writerRows threads keys counts operations schedule room)
+      passed nothing (fileOf threads keys counts operations schedule) (writerRows threads keys counts operations schedule room)
       (writer-passes e)
 
   pub writes-nothing : (writeOf threads keys counts operations schedule room .number ≡ 0 → ⊥)
       → writtenOf threads keys counts operations schedule room ≡ []
+  unfolding writtenOf
   writes-nothing e =
-      stopped (λ n p. []) (fileOf threads keys counts operations schedule) (writer-stops e .2)
+      stopped nothing (fileOf threads keys counts operations schedule) (writer-stops e .2)

@@ -94,5 +94,5 @@ accepted f =
       steps = stepsIn f;
     }
 
-abbrev pub readOf : List ℕ → Reading
+unfoldable pub readOf : List ℕ → Reading
 readOf f = decide refused (accepted f) (rows f)

@@ -22,6 +22,15 @@ wrongIn ok bytes = firstBadIn ok 0 (length bytes)
 abbrev pub unwritten : ℕ → ℕ → Writing
 unwritten n p = record { number = n; place = p; length = 0 }
 
+-- accepted: the file's length
+abbrev pub written : ℕ → ℕ → List ℕ → List ℕ → List ℕ → Writing
+written threads keys counts operations schedule =
+    record { number = 0; place = 0; length = length (fileOf threads keys counts operations schedule) }
+
+-- what a refusal writes
+abbrev pub nothing : ℕ → ℕ → List ℕ
+nothing n p = []
+
 module _ (threads keys : ℕ) (counts operations schedule : List ℕ) (room : ℕ) where
   abbrev pub writerBodyRows : List Row
   writerBodyRows =
@@ -40,14 +49,9 @@ module _ (threads keys : ℕ) (counts operations schedule : List ℕ) (room : �
       ∷ row 7 (ltb mostSteps (length schedule)) 0
       ∷ writerBodyRows
 
-  -- accepted: the file's length
-  abbrev pub written : Writing
-  written =
-      record { number = 0; place = 0; length = length (fileOf threads keys counts operations schedule) }
+  unfoldable pub writeOf : Writing
+  writeOf = decide unwritten (written threads keys counts operations schedule) writerRows
 
-  abbrev pub writeOf : Writing
-  writeOf = decide unwritten written writerRows
-
-  -- what is written from the output's first byte on: nothing after a refusal
-  abbrev pub writtenOf : List ℕ
-  writtenOf = decide (λ n p. []) (fileOf threads keys counts operations schedule) writerRows
+  -- what is written from the output's first byte on
+  unfoldable pub writtenOf : List ℕ
+  writtenOf = decide nothing (fileOf threads keys counts operations schedule) writerRows

@@ -6,10 +6,16 @@ ghost use mathlib.Core.List.{[], _∷_, _++_};
 ghost use Prim.Native.Nat.{ℕ, _+_, _-_, _*_, _/_, _%_, _≤_, _<_};
 ghost use lib.ListN.{length, getD, replicate};
 ghost use lib.Seq.{sets};
+ghost use Rattle.figures.specs.Limits.{mostThreads, mostOperations, mostSteps};
 ghost use Rattle.runfile.specs.Rows.{outside, firstBadIn, sumTo, listFrom, decide};
 ghost use Rattle.runfile.specs.Layout.{wordAt, entryAt, bodyAt, countIn, allowed, operationRight, stepRight, countOf, entries, fileOf};
 ghost use Rattle.runfile.specs.Read.{threadsIn, operationsIn, stepsIn, scheduleIn, wrongEntry, refused, accepted, bodyRows, tableRows, readOf};
 ghost use Rattle.runfile.specs.Write.{disagree, unwritten, written, writerBodyRows, writeOf, writtenOf};
+
+// T and K, and then contents entries of four bytes.
+const HEADER: usize = 2;
+
+const ENTRY: usize = 4;
 
 // What reading answers: number 0 where the file is accepted, else the refusal's number and place, and every other number 0.
 pub struct Reading {
@@ -107,13 +113,13 @@ fn wrong_step(bytes: &[u8], threads: u8, from: usize, end: usize) -> usize
 
 // The first of the n entries whose offset is not where the bodies before it end, or n.
 fn wrong_entry(file: &[u8], n: usize) -> usize
-    requires { ⌜ (n ≤ 9) × (entryAt n ≤ length (now file)) × (n ≡ threadsIn (now file) + 1) ⌝ }
+    requires { ⌜ (n ≤ mostThreads + 1) × (entryAt n ≤ length (now file)) × (n ≡ threadsIn (now file) + 1) ⌝ }
     ensures { λ r. ⌜ r ≡ wrongEntry (now (file .entry)) ⌝ }
 {
     let mut i: usize = 0;
-    let mut end: usize = 2 + 4 * n;
+    let mut end: usize = HEADER + ENTRY * n;
     while i < n {
-        let p = 2 + 4 * i;
+        let p = HEADER + ENTRY * i;
         let offset = word(file, p);
         if offset != end {
             return i;
@@ -126,14 +132,14 @@ fn wrong_entry(file: &[u8], n: usize) -> usize
 
 // The sum of the first n counts.
 fn sum_counts(file: &[u8], n: usize) -> usize
-    requires { ⌜ (n ≤ 8) × (entryAt n ≤ length (now file)) ⌝ }
+    requires { ⌜ (n ≤ mostThreads) × (entryAt n ≤ length (now file)) ⌝ }
     ensures { λ r. ⌜ r ≡ sumTo (countIn (now (file .entry))) n ⌝ }
     ensures { λ r. ⌜ r ≤ 65535 * n ⌝ }
 {
     let mut sum: usize = 0;
     let mut i: usize = 0;
     while i < n {
-        sum = sum + word(file, 2 + 4 * i + 2);
+        sum = sum + word(file, HEADER + ENTRY * i + 2);
         i = i + 1;
     }
     sum
@@ -141,13 +147,13 @@ fn sum_counts(file: &[u8], n: usize) -> usize
 
 // The first n counts, and 0 for absent threads.
 fn take_counts(file: &[u8], n: usize) -> [u16; 8]
-    requires { ⌜ (n ≤ 8) × (entryAt n ≤ length (now file)) ⌝ }
-    ensures { λ r. ⌜ r ≡ listFrom (countIn (now (file .entry))) n 0 ++ replicate (8 - n) 0 ⌝ }
+    requires { ⌜ (n ≤ mostThreads) × (entryAt n ≤ length (now file)) ⌝ }
+    ensures { λ r. ⌜ r ≡ listFrom (countIn (now (file .entry))) n 0 ++ replicate (mostThreads - n) 0 ⌝ }
 {
     let mut counts = [0u16; 8];
     let mut i: usize = 0;
     while i < n {
-        counts[i] = narrow(word(file, 2 + 4 * i + 2));
+        counts[i] = narrow(word(file, HEADER + ENTRY * i + 2));
         i = i + 1;
     }
     counts
@@ -171,13 +177,13 @@ fn refusal(number: u32, place: usize) -> Reading
 
 // The bodies' rows, 9 and 10, and the answer where they let the file pass.
 fn read_bodies(file: &[u8], operations: usize, schedule: usize, steps: usize) -> Reading
-    requires { ⌜ (threadsIn (now file) ≤ 8) × (bodyAt (threadsIn (now file)) ≤ schedule) × (schedule + steps ≤ length (now file))
+    requires { ⌜ (threadsIn (now file) ≤ mostThreads) × (bodyAt (threadsIn (now file)) ≤ schedule) × (schedule + steps ≤ length (now file))
         × (operations ≡ operationsIn (now file)) × (schedule ≡ scheduleIn (now file)) × (steps ≡ stepsIn (now file)) ⌝ }
     ensures { λ r. ⌜ r ≡ decide refused (accepted (now (file .entry))) (bodyRows (now (file .entry))) ⌝ }
 {
     let threads = file[0];
     let keys = file[1];
-    let operations_at = 2 + 4 * (wide(threads) + 1);
+    let operations_at = HEADER + ENTRY * (wide(threads) + 1);
     let operation = wrong_operation(file, keys, operations_at, schedule);
     if operation < schedule {
         return refusal(9, operation);
@@ -203,23 +209,23 @@ fn read_bodies(file: &[u8], operations: usize, schedule: usize, steps: usize) ->
 
 // The contents table's rows, 5 to 8, and then the bodies.
 fn read_table(file: &[u8]) -> Reading
-    requires { ⌜ (threadsIn (now file) ≤ 8) × (bodyAt (threadsIn (now file)) ≤ length (now file)) ⌝ }
+    requires { ⌜ (threadsIn (now file) ≤ mostThreads) × (bodyAt (threadsIn (now file)) ≤ length (now file)) ⌝ }
     ensures { λ r. ⌜ r ≡ decide refused (accepted (now (file .entry))) (tableRows (now (file .entry))) ⌝ }
 {
     let threads = wide(file[0]);
     let entry = wrong_entry(file, threads + 1);
     if entry < threads + 1 {
-        return refusal(5, 2 + 4 * entry);
+        return refusal(5, HEADER + ENTRY * entry);
     }
     let operations = sum_counts(file, threads);
     if Machine::OPERATIONS < operations {
         return refusal(6, 0);
     }
-    let steps = word(file, 2 + 4 * threads + 2);
+    let steps = word(file, HEADER + ENTRY * threads + 2);
     if Machine::STEPS < steps {
         return refusal(7, 0);
     }
-    let schedule = word(file, 2 + 4 * threads);
+    let schedule = word(file, HEADER + ENTRY * threads);
     if file.len() != schedule + steps {
         return refusal(8, 0);
     }
@@ -233,14 +239,14 @@ pub fn read(file: &[u8]) -> Reading
     if file.len() < 2 {
         return refusal(1, 0);
     }
-    let threads = file[0];
-    if is_outside(threads, Machine::THREADS) {
+    let t = file[0];
+    if is_outside(t, Machine::THREADS) {
         return refusal(2, 0);
     }
     if is_outside(file[1], Machine::KEYS) {
         return refusal(3, 0);
     }
-    if file.len() < 2 + 4 * (wide(threads) + 1) {
+    if file.len() < HEADER + ENTRY * (wide(t) + 1) {
         return refusal(4, 0);
     }
     read_table(file)
@@ -257,7 +263,7 @@ fn wide_count(x: u16) -> usize
 
 // The sum of a list of counts.
 fn sum_list(counts: &[u16]) -> usize
-    requires { ⌜ length (now counts) ≤ 8 ⌝ }
+    requires { ⌜ length (now counts) ≤ mostThreads ⌝ }
     ensures { λ r. ⌜ r ≡ sumTo (countOf (now (counts .entry))) (length (now (counts .entry))) ⌝ }
 {
     let mut sum: usize = 0;
@@ -272,13 +278,14 @@ fn sum_list(counts: &[u16]) -> usize
 // Whether there are not so many counts as threads, or their sum is not the number of operations. The counts are summed only
 // where they are few, so that the sum fits.
 fn is_disagreeing(threads: u8, counts: &[u16], operations: usize) -> bool
-    requires { ⌜ threads ≤ 8 ⌝ }
+    requires { ⌜ threads ≤ mostThreads ⌝ }
     ensures { λ r. ⌜ r ≡ disagree threads (now (counts .entry)) operations ⌝ }
 {
     if counts.len() != wide(threads) {
         return true;
     }
-    sum_list(counts) != operations
+    let sum = sum_list(counts);
+    sum != operations
 }
 
 fn not_written(number: u32, place: usize) -> Writing
@@ -300,8 +307,8 @@ fn judge_bodies(
     schedule: &[u8],
     room: usize,
 ) -> Writing
-    requires { ⌜ (length (now counts) ≡ threads) × (threads ≤ 8) × (length (now operations) ≤ 64) × (length (now schedule) ≤ 4096) ⌝ }
-    ensures { λ r. ⌜ r ≡ decide unwritten (written threads keys (now (counts .entry)) (now (operations .entry)) (now (schedule .entry)) room)
+    requires { ⌜ (length (now counts) ≡ threads) × (threads ≤ mostThreads) × (length (now operations) ≤ mostOperations) × (length (now schedule) ≤ mostSteps) ⌝ }
+    ensures { λ r. ⌜ r ≡ decide unwritten (written threads keys (now (counts .entry)) (now (operations .entry)) (now (schedule .entry)))
         (writerBodyRows threads keys (now (counts .entry)) (now (operations .entry)) (now (schedule .entry)) room) ⌝ }
 {
     let operation = wrong_operation(operations, keys, 0, operations.len());
@@ -312,7 +319,7 @@ fn judge_bodies(
     if step < schedule.len() {
         return not_written(10, step);
     }
-    let length = 2 + 4 * (counts.len() + 1) + operations.len() + schedule.len();
+    let length = HEADER + ENTRY * (counts.len() + 1) + operations.len() + schedule.len();
     if room < length {
         return not_written(11, 0);
     }
@@ -378,14 +385,14 @@ fn put_entry(out: &mut [u8], p: usize, offset: usize, count: usize)
 
 // An entry for each count, the first body at `body`.
 fn put_entries(out: &mut [u8], counts: &[u16], body: usize)
-    requires { ⌜ (length (now counts) ≤ 8) × (entryAt (length (now counts)) ≤ length (now out)) × (body + sumTo (countOf (now counts)) (length (now counts)) < 65536) ⌝ }
+    requires { ⌜ (length (now counts) ≤ mostThreads) × (entryAt (length (now counts)) ≤ length (now out)) × (body + sumTo (countOf (now counts)) (length (now counts)) < 65536) ⌝ }
     ensures { λ r. ⌜ now (out .exit) ≡ sets (now (out .entry)) 2 (entries body (now (counts .entry))) ⌝ }
 {
     let mut offset = body;
     let mut i: usize = 0;
     while i < counts.len() {
         let count = wide_count(counts[i]);
-        put_entry(out, 2 + 4 * i, offset, count);
+        put_entry(out, HEADER + ENTRY * i, offset, count);
         offset = offset + count;
         i = i + 1;
     }
@@ -405,17 +412,17 @@ fn put_bytes(out: &mut [u8], from: usize, bytes: &[u8])
 
 // The whole file, of contents that are right, where there is room.
 fn fill(threads: u8, keys: u8, counts: &[u16], operations: &[u8], schedule: &[u8], out: &mut [u8])
-    requires { ⌜ (length (now counts) ≡ threads) × (threads ≤ 8) × (length (now operations) ≤ 64) × (length (now schedule) ≤ 4096)
+    requires { ⌜ (length (now counts) ≡ threads) × (threads ≤ mostThreads) × (length (now operations) ≤ mostOperations) × (length (now schedule) ≤ mostSteps)
         × (sumTo (countOf (now counts)) (length (now counts)) ≡ length (now operations))
         × (length (fileOf threads keys (now counts) (now operations) (now schedule)) ≤ length (now out)) ⌝ }
     ensures { λ r. ⌜ now (out .exit) ≡ sets (now (out .entry)) 0 (fileOf threads keys (now (counts .entry)) (now (operations .entry)) (now (schedule .entry))) ⌝ }
 {
-    let body = 2 + 4 * (counts.len() + 1);
+    let body = HEADER + ENTRY * (counts.len() + 1);
     let end = body + operations.len();
     out[0] = threads;
     out[1] = keys;
     put_entries(out, counts, body);
-    put_entry(out, 2 + 4 * counts.len(), end, schedule.len());
+    put_entry(out, HEADER + ENTRY * counts.len(), end, schedule.len());
     put_bytes(out, body, operations);
     put_bytes(out, end, schedule);
 }

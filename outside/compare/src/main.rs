@@ -2,7 +2,7 @@
 
 use compare::differ::{self, Met};
 use compare::generate::{self, Sort};
-use compare::side::{Plain, Side};
+use compare::side::{Ours, Plain, Side};
 use compare::text;
 use std::path::PathBuf;
 use std::process::ExitCode;
@@ -58,7 +58,7 @@ impl Tally {
 
     fn print(&self) {
         println!("random {} damaged {} valid {} limit {}", self.sorts[0], self.sorts[1], self.sorts[2], self.sorts[3]);
-        println!("number {:>10}", (0..13).map(|n| format!("{n:>9}")).collect::<String>());
+        println!("number          {}", (0..13).map(|n| format!("{n:>9}")).collect::<String>());
         for (name, row) in ["read", "write", "run", "lent"].iter().zip(&self.numbers) {
             println!("{name:<16}{}", row.iter().map(|n| format!("{n:>9}")).collect::<String>());
         }
@@ -122,7 +122,7 @@ fn whole(asked: &Asked, ours: &dyn Side) -> Result<Tally, String> {
 
 fn main() -> ExitCode {
     let begun = Instant::now();
-    let tally = asked().and_then(|asked| Ok((whole(&asked, &Plain)?, asked)));
+    let tally = asked().and_then(|asked| Ok((whole(&asked, &Ours)?, asked)));
     match tally {
         Ok((tally, asked)) => {
             tally.print();

@@ -115,14 +115,7 @@ fn read_bodies(file: &[u8], threads: u8, keys: u8, entries: &[(usize, usize)]) -
 }
 
 /// Writes the file with these contents to the front of `out` and tells its length.
-pub fn write(
-    threads: u8,
-    keys: u8,
-    counts: &[u16],
-    operations: &[u8],
-    schedule: &[u8],
-    out: &mut [u8],
-) -> Result<usize, Refusal> {
+pub fn write(threads: u8, keys: u8, counts: &[u16], operations: &[u8], schedule: &[u8], out: &mut [u8]) -> Result<usize, Refusal> {
     if !(1..=8).contains(&threads) {
         return refuse(2, 0);
     }

@@ -28,12 +28,7 @@ pub fn run(file: &[u8], results: &mut [u32], log: &mut [u32]) -> Result<Totals, 
 }
 
 /// The same with the table of snapshot records lent; afterwards it holds the announced ones.
-pub fn run_lent(
-    file: &[u8],
-    results: &mut [u32],
-    log: &mut [u32],
-    table: &mut [Snapshot],
-) -> Result<Totals, Refusal> {
+pub fn run_lent(file: &[u8], results: &mut [u32], log: &mut [u32], table: &mut [Snapshot]) -> Result<Totals, Refusal> {
     let machine = played(file, results.len(), log.len(), Some(table.len()))?;
     for (room, record) in table.iter_mut().zip(machine.snapshots()) {
         *room = *record;
@@ -60,9 +55,5 @@ fn hand_back(machine: &Machine, results: &mut [u32], log: &mut [u32]) -> Totals 
     for (room, entry) in log.chunks_exact_mut(2).zip(&entries) {
         room.copy_from_slice(&[entry.operation as u32, entry.step]);
     }
-    Totals {
-        entries: entries.len(),
-        idle: machine.idle(),
-        snapshots: machine.snapshots().len() - 1,
-    }
+    Totals { entries: entries.len(), idle: machine.idle(), snapshots: machine.snapshots().len() - 1 }
 }

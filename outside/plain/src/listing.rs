@@ -43,11 +43,7 @@ pub fn text(file: &[u8], c: &Contents, results: &[u32], log: &[u32], totals: Tot
         let thread = starts[1..].iter().take_while(|end| **end <= i).count();
         let asked = asked(*byte);
         let answer = answer(*byte, r[0]);
-        let _ = writeln!(
-            out,
-            "op {i} thread {thread} {asked} answer {answer} first {} last {} own {}",
-            r[1], r[2], r[3]
-        );
+        let _ = writeln!(out, "op {i} thread {thread} {asked} answer {answer} first {} last {} own {}", r[1], r[2], r[3]);
     }
     for entry in log.chunks_exact(2).take(totals.entries) {
         let _ = writeln!(out, "log {} at {}", entry[0], entry[1]);

@@ -20,12 +20,8 @@ struct Place {
 
 /// The log, in order.
 pub fn entries(machine: &Machine) -> Vec<Entry> {
-    let mut places: Vec<(Place, usize)> = machine
-        .operations()
-        .iter()
-        .enumerate()
-        .filter_map(|(i, o)| Some((place(machine, o)?, i)))
-        .collect();
+    let mut places: Vec<(Place, usize)> =
+        machine.operations().iter().enumerate().filter_map(|(i, o)| Some((place(machine, o)?, i))).collect();
     places.sort();
     places.iter().map(|(place, operation)| Entry { operation: *operation, step: place.step }).collect()
 }

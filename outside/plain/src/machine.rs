@@ -82,6 +82,29 @@ enum Then {
     Unlink(Slot),
 }
 
+/// What seldom happens. A run says which of these it met, so that whoever makes runs can tell whether they reach everything.
+#[derive(Debug, Clone, Copy, PartialEq, Eq)]
+pub enum Rare {
+    LinkFails,
+    MarkFails,
+    ClearFails,
+    UnlinkFails,
+    RaiseFails,
+    CounterPassed,
+    ForwardFails,
+    ForwardSatisfied,
+    SizeJoins,
+    AnnounceFails,
+    CollectFails,
+    FlagWrittenAgain,
+    SizeShared,
+    OtherSumShared,
+}
+
+impl Rare {
+    pub const COUNT: usize = Rare::OtherSumShared as usize + 1;
+}
+
 /// The next access of a thread that has begun an operation.
 #[derive(Debug, Clone, Copy)]
 enum Point {
@@ -132,6 +155,7 @@ pub struct Machine {
     updates: [[Vec<Update>; 2]; 8],
     clock: u32,
     idle: usize,
+    met: [bool; Rare::COUNT],
 }
 
 const NOTHING_READ: [[u32; 2]; 8] = [[INVALID; 2]; 8];
@@ -168,6 +192,7 @@ impl Machine {
             updates: Default::default(),
             clock: 0,
             idle: 0,
+            met: [false; Rare::COUNT],
         };
         (0..machine.count).for_each(|t| machine.make_ready(t));
         machine
@@ -191,6 +216,15 @@ impl Machine {
 
     pub fn idle(&self) -> usize {
         self.idle
+    }
+
+    /// Whether each of `Rare` was met, in its order.
+    pub fn met(&self) -> [bool; Rare::COUNT] {
+        self.met
+    }
+
+    fn meet(&mut self, rare: Rare) {
+        self.met[rare as usize] = true;
     }
 
     /// Puts thread t before the first access of its next operation, if it has one.
@@ -234,16 +268,18 @@ impl Machine {
             ReadSlot => self.read_slot(o),
             ReadInsertionCounter => Next::At(Link { target: self.counters[t][INSERTION] + 1 }),
             Link { target } => self.link(t, o, target),
-            ReadDeletionCounter { insertion } => {
-                Next::At(MarkNode { insertion, target: self.counters[t][DELETION] + 1 })
-            }
+            ReadDeletionCounter { insertion } => Next::At(MarkNode { insertion, target: self.counters[t][DELETION] + 1 }),
             MarkNode { insertion, target } => self.mark(t, o, insertion, target),
             Clear { node } => {
-                self.exchange_slot(o, node, Slot::Empty);
+                if !self.exchange_slot(o, node, Slot::Empty) {
+                    self.meet(Rare::ClearFails);
+                }
                 Next::At(ReadSlot)
             }
             Unlink { node } => {
-                self.exchange_slot(o, node, Slot::Empty);
+                if !self.exchange_slot(o, node, Slot::Empty) {
+                    self.meet(Rare::UnlinkFails);
+                }
                 Next::Answer(1)
             }
             SizeReadCurrent | SizeReadFlag(_) | Announce(_) => self.obtain(t, o),
@@ -295,6 +331,7 @@ impl Machine {
             self.became_update(o, insertion);
             Next::At(Point::ReadCounter(insertion, Then::Answer(1)))
         } else {
+            self.meet(Rare::LinkFails);
             Next::At(Point::ReadSlot)
         }
     }
@@ -306,6 +343,7 @@ impl Machine {
             self.became_update(o, deletion);
             Next::At(Point::ReadCounter(deletion, Then::Unlink(marked)))
         } else {
+            self.meet(Rare::MarkFails);
             Next::At(Point::ReadSlot)
         }
     }
@@ -335,17 +373,21 @@ impl Machine {
             ReadCurrent(note, then) => Next::At(ReadFlag(note, then, self.snapshots.len() - 1)),
             ReadFlag(note, then, s) if self.snapshots[s].collecting => Next::At(ReadCounterAgain(note, then, s)),
             ReadCounterAgain(note, then, s) if self.counter(note) == note.target => Next::At(ReadCell(note, then, s)),
-            ReadFlag(_, then, _) | ReadCounterAgain(_, then, _) => then.next(),
+            ReadFlag(_, then, _) => then.next(),
+            ReadCounterAgain(_, then, _) => {
+                self.meet(Rare::CounterPassed);
+                then.next()
+            }
             ReadCell(note, then, s) => forward(note, then, s, self.snapshots[s].cells[note.thread][note.kind]),
             Forward(note, then, s, known) => {
                 let cell = &mut self.snapshots[s].cells[note.thread][note.kind];
                 let witnessed = *cell;
                 if witnessed == known {
                     *cell = note.target;
-                    then.next()
-                } else {
-                    forward(note, then, s, witnessed)
+                    return then.next();
                 }
+                self.meet(if witnessed < note.target { Rare::ForwardFails } else { Rare::ForwardSatisfied });
+                forward(note, then, s, witnessed)
             }
             other => unreachable!("{other:?} is no access of the metadata's update"),
         }
@@ -356,6 +398,8 @@ impl Machine {
         if *counter == note.target - 1 {
             *counter = note.target;
             self.updates[note.thread][note.kind][note.target as usize - 1].raised = Some(self.clock);
+        } else {
+            self.meet(Rare::RaiseFails);
         }
     }
 
@@ -365,14 +409,20 @@ impl Machine {
         let current = self.snapshots.len() - 1;
         let using = match self.threads[t].point {
             Point::SizeReadCurrent => return Next::At(Point::SizeReadFlag(current)),
-            Point::SizeReadFlag(s) if self.snapshots[s].collecting => s,
+            Point::SizeReadFlag(s) if self.snapshots[s].collecting => {
+                self.meet(Rare::SizeJoins);
+                s
+            }
             Point::SizeReadFlag(s) => return Next::At(Point::Announce(s)),
             Point::Announce(s) if s == current => {
                 self.snapshots.push(Snapshot { cells: NOTHING_READ, collecting: true, size: INVALID });
                 self.stories.push(Story { announced: self.clock, closed: None, winner_read: None });
                 s + 1
             }
-            _ => current,
+            _ => {
+                self.meet(Rare::AnnounceFails);
+                current
+            }
         };
         self.operations[o].snapshot = Some(using);
         Next::At(Point::CollectCounter(using, 0))
@@ -392,10 +442,15 @@ impl Machine {
                 let cell = &mut self.snapshots[s].cells[j / 2][j % 2];
                 if *cell == INVALID {
                     *cell = value;
+                } else {
+                    self.meet(Rare::CollectFails);
                 }
                 after(s, j)
             }
             Point::WriteFlag(s) => {
+                if !self.snapshots[s].collecting {
+                    self.meet(Rare::FlagWrittenAgain);
+                }
                 self.snapshots[s].collecting = false;
                 self.stories[s].closed.get_or_insert(self.clock);
                 Next::At(Point::Sum(s, 0))
@@ -413,16 +468,25 @@ impl Machine {
                 Next::At(if j + 1 < 2 * count { Point::Sum(s, j + 1) } else { Point::FixSize(s) })
             }
             Point::FixSize(s) => {
-                let snapshot = &mut self.snapshots[s];
-                if snapshot.size == INVALID {
-                    let sum: i64 = thread.summed[..count].iter().map(|c| c[INSERTION] as i64 - c[DELETION] as i64).sum();
-                    snapshot.size = u32::try_from(sum).expect("a size is not below zero");
-                    self.stories[s].winner_read = Some(thread.summed);
-                }
-                Next::Answer(snapshot.size)
+                let summed = thread.summed;
+                Next::Answer(self.fix(s, summed))
             }
             other => unreachable!("{other:?} is no access of computing"),
         }
+    }
+
+    /// The snapshot's size, which is this sum if it had none.
+    fn fix(&mut self, s: usize, summed: [[u32; 2]; 8]) -> u32 {
+        let sum: i64 = summed[..self.count].iter().map(|c| c[INSERTION] as i64 - c[DELETION] as i64).sum();
+        let size = u32::try_from(sum).expect("a size is not below zero");
+        let witnessed = self.snapshots[s].size;
+        if witnessed == INVALID {
+            self.snapshots[s].size = size;
+            self.stories[s].winner_read = Some(summed);
+            return size;
+        }
+        self.meet(if witnessed == size { Rare::SizeShared } else { Rare::OtherSumShared });
+        witnessed
     }
 }
 

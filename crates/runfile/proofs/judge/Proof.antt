@@ -1,3 +1,4 @@
+use Rattle.runfile.specs.Write.{writeOf}
 use mathlib.Core.Path.{sym, _∙_}
 use lib.ListN.{length}
 use borrow.Author.Tests.{lt-ltb, le-ltb}
@@ -15,6 +16,7 @@ not-written-requires : tie.Need-not-written-requires
 not-written-requires c κs = search needs
 
 returns : tie.Need-returns
+unfolding writeOf
 returns c =
     let s = c .before .before .before .before .before .before in
     let on = sym (c .before .before .is-outside .ensures) ∙ c .before .if1 .taken in
@@ -27,6 +29,7 @@ not-written-requires-2 : tie.Need-not-written-requires-2
 not-written-requires-2 c κs = search needs
 
 returns-2 : tie.Need-returns-2
+unfolding writeOf
 returns-2 c =
     let s = c .before .before .before .before .before .before .before .before in
     let past2 = sym (c .before .before .before .before .is-outside .ensures) ∙ c .before .before .before .if1 .left in
@@ -43,6 +46,7 @@ not-written-requires-3 : tie.Need-not-written-requires-3
 not-written-requires-3 c κs = search needs
 
 returns-3 : tie.Need-returns-3
+unfolding writeOf
 returns-3 c =
     let s = c .before .before .before .before .before .before .before .before .before .before in
     let past2 = sym (c .before .before .before .before .before .before .is-outside .ensures) ∙ c .before .before .before .before .before .if1 .left in
@@ -54,6 +58,7 @@ not-written-requires-4 : tie.Need-not-written-requires-4
 not-written-requires-4 c κs = search needs
 
 returns-4 : tie.Need-returns-4
+unfolding writeOf
 returns-4 c =
     let s = c .before .before .before .before .before .before .before .before .before .before .before in
     let past2 = sym (c .before .before .before .before .before .before .before .is-outside .ensures) ∙ c .before .before .before .before .before .before .if1 .left in
@@ -66,6 +71,7 @@ not-written-requires-5 : tie.Need-not-written-requires-5
 not-written-requires-5 c κs = search needs
 
 returns-5 : tie.Need-returns-5
+unfolding writeOf
 returns-5 c =
     let s = c .before .before .before .before .before .before .before .before .before .before .before .before in
     let past2 = sym (c .before .before .before .before .before .before .before .before .is-outside .ensures) ∙ c .before .before .before .before .before .before .before .if1 .left in
@@ -83,6 +89,7 @@ judge-bodies-requires c κs =
     (agreed (s .args .threads) (s .args .counts .now) (length (s .args .operations .now)) past12 .0, inside _ _ past2 .1, omega arith, omega arith)
 
 returns-6 : tie.Need-returns-6
+unfolding writeOf
 returns-6 c =
     let s = c .before .before .before .before .before .before .before .before .before .before .before .before in
     let past2 = sym (c .before .before .before .before .before .before .before .before .is-outside .ensures) ∙ c .before .before .before .before .before .before .before .if1 .left in

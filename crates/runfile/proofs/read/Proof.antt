@@ -2,7 +2,7 @@ use mathlib.Core.Path.{sym, _∙_}
 use lib.ListN.{length}
 use borrow.Author.Tests.{lt-ltb, le-ltb}
 use Rattle.runfile.specs.Layout.{bodyAt}
-use Rattle.runfile.specs.Read.{threadsIn}
+use Rattle.runfile.specs.Read.{readOf, threadsIn}
 use Rattle.runfile.proofs.Laws.{inside}
 use native.Mathlib.Omega.{arith}
 use borrow.Author.Needs.{needs}
@@ -13,12 +13,13 @@ refusal-requires : tie.Need-refusal-requires
 refusal-requires c κs = search needs
 
 returns : tie.Need-returns
+unfolding readOf
 returns c =
     let f = c .before .before .before .args .file .now in
     simp (lt-ltb _ _ (c .before .if1 .taken)) (c .refusal .ensures)
 
-shared-slice-read-threads : tie.Need-shared-slice-read-threads
-shared-slice-read-threads c = search needs
+shared-slice-read-t : tie.Need-shared-slice-read-t
+shared-slice-read-t c = search needs
 
 is-outside-requires : tie.Need-is-outside-requires
 is-outside-requires c κs = search needs
@@ -27,6 +28,7 @@ refusal-requires-2 : tie.Need-refusal-requires-2
 refusal-requires-2 c κs = search needs
 
 returns-2 : tie.Need-returns-2
+unfolding readOf
 returns-2 c =
     let s = c .before .before .before .before .before .before in
     let f = s .args .file .now in
@@ -44,6 +46,7 @@ refusal-requires-3 : tie.Need-refusal-requires-3
 refusal-requires-3 c κs = search needs
 
 returns-3 : tie.Need-returns-3
+unfolding readOf
 returns-3 c =
     let s = c .before .before .before .before .before .before .before .before .before in
     let f = s .args .file .now in
@@ -68,6 +71,7 @@ refusal-requires-4 : tie.Need-refusal-requires-4
 refusal-requires-4 c κs = search needs
 
 returns-4 : tie.Need-returns-4
+unfolding readOf
 returns-4 c =
     let s = c .before .before .before .before .before .before .before .before .before .before .before in
     let f = s .args .file .now in
@@ -85,6 +89,7 @@ read-table-requires c κs =
     (inside _ _ past2 .1, omega arith)
 
 returns-5 : tie.Need-returns-5
+unfolding readOf
 returns-5 c =
     let s = c .before .before .before .before .before .before .before .before .before .before .before in
     let f = s .args .file .now in
@@ -100,7 +105,7 @@ read-spec =
     (tie.spec
     refusal-requires
     returns
-    shared-slice-read-threads
+    shared-slice-read-t
     is-outside-requires
     refusal-requires-2
     returns-2

@@ -108,7 +108,7 @@ returns-4 c =
     let past5 = le-ltb (wrongEntry f) (threadsIn f + 1) (omega arith) in
     let past6 = le-ltb mostOperations (operationsIn f) (omega arith) in
     let past7 = le-ltb mostSteps (stepsIn f) (omega arith) in
-    let on = ne-eqb (length f) (scheduleIn f + stepsIn f) (λ e. c .before .if4 .taken (omega arith)) in
+    let on = ne-eqb (length f) (scheduleIn f + stepsIn f) (λ e. omega arith) in
     simp (past5, past6, past7, on) (c .refusal4 .ensures)
 
 read-bodies-requires : tie.Need-read-bodies-requires

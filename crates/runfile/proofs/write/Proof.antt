@@ -1,4 +1,5 @@
-use mathlib.Core.Path.{_≡_, sym, ap, _∙_}
+use native.Mathlib.Omega.{arith}
+use mathlib.Core.Path.{_≡_, ap}
 use lib.ListN.{length}
 use lib.Seq.{length-sets}
 use Rattle.runfile.specs.Write.{writeOf}
@@ -14,7 +15,8 @@ judge-requires c κs = search needs
 fill-requires : tie.Need-fill-requires
 fill-requires c κs =
     let s = c .before .before .before .before .before .before .before .before in
-    let zero : writeOf (s .args .threads) (s .args .keys) (s .args .counts .now) (s .args .operations .now) (s .args .schedule .now) (length (s .args .out .now)) .number ≡ 0 = ap (λ (w : Writing). w .number) (sym (c .before .before .before .judge .ensures)) ∙ c .before .if1 .taken in
+    let told : c .before .before .before .judge .result .number ≡ writeOf (s .args .threads) (s .args .keys) (s .args .counts .now) (s .args .operations .now) (s .args .schedule .now) (length (s .args .out .now)) .number = ap (λ (w : Writing). w .number) (c .before .before .before .judge .ensures) in
+    let zero : writeOf (s .args .threads) (s .args .keys) (s .args .counts .now) (s .args .operations .now) (s .args .schedule .now) (length (s .args .out .now)) .number ≡ 0 = omega arith in
     ready (s .args .threads) (s .args .keys) (s .args .counts .now) (s .args .operations .now) (s .args .schedule .now) (length (s .args .out .now)) zero
 
 same-length : tie.Need-same-length
@@ -23,13 +25,15 @@ same-length c = simp (c .before .before .fill .ensures, length-sets)
 returns : tie.Need-returns
 returns c =
     let s = c .before .before .before .before .before .before .before .before .before .before .before in
-    let zero : writeOf (s .args .threads) (s .args .keys) (s .args .counts .now) (s .args .operations .now) (s .args .schedule .now) (length (s .args .out .now)) .number ≡ 0 = ap (λ (w : Writing). w .number) (sym (c .before .before .before .before .before .before .judge .ensures)) ∙ c .before .before .before .before .if1 .taken in
+    let told : c .before .before .before .before .before .before .judge .result .number ≡ writeOf (s .args .threads) (s .args .keys) (s .args .counts .now) (s .args .operations .now) (s .args .schedule .now) (length (s .args .out .now)) .number = ap (λ (w : Writing). w .number) (c .before .before .before .before .before .before .judge .ensures) in
+    let zero : writeOf (s .args .threads) (s .args .keys) (s .args .counts .now) (s .args .operations .now) (s .args .schedule .now) (length (s .args .out .now)) .number ≡ 0 = omega arith in
     (c .before .before .before .before .before .before .judge .ensures, rw (writes-file (s .args .threads) (s .args .keys) (s .args .counts .now) (s .args .operations .now) (s .args .schedule .now) (length (s .args .out .now)) zero) (c .before .before .fill .ensures))
 
 returns-2 : tie.Need-returns-2
 returns-2 c =
     let s = c .before .before .before .before .before .before .before in
-    let none = writes-nothing (s .args .threads) (s .args .keys) (s .args .counts .now) (s .args .operations .now) (s .args .schedule .now) (length (s .args .out .now)) (λ z. c .if1 .left (ap (λ (w : Writing). w .number) (c .before .before .judge .ensures) ∙ z)) in
+    let told : c .before .before .judge .result .number ≡ writeOf (s .args .threads) (s .args .keys) (s .args .counts .now) (s .args .operations .now) (s .args .schedule .now) (length (s .args .out .now)) .number = ap (λ (w : Writing). w .number) (c .before .before .judge .ensures) in
+    let none = writes-nothing (s .args .threads) (s .args .keys) (s .args .counts .now) (s .args .operations .now) (s .args .schedule .now) (length (s .args .out .now)) (λ z. omega arith) in
     (c .before .before .judge .ensures, rw none)
 
 pub write-spec : {M : Type 1} → statement M

@@ -2,7 +2,7 @@ use Prim.Native.Nat.{_+_, _-_, _*_, _≤_}
 use mathlib.Core.Path.{_≡_, sym, _∙_}
 use borrow.Author.Tests.{eq-eqb, ne-eqb}
 use Rattle.runfile.specs.Rows.{firstBadIn, sumTo}
-use Rattle.runfile.specs.Layout.{bodyAt, countIn}
+use Rattle.runfile.specs.Layout.{bodyAt, offsetIn, countIn}
 use Rattle.runfile.specs.Read.{threadsIn, offsetRight, wrongEntry}
 use Rattle.runfile.proofs.Laws.{bad-on, bad-off, bad-end, sum-on}
 use native.Mathlib.Omega.{arith}
@@ -41,8 +41,9 @@ word-requires c κs = search needs
 returns : tie.Need-returns Inv-loop μ-loop
 returns c =
     let l = c .before .before .before .loop in
+    let file = c .before .before .before .before .before .args .file .now in
     sym (bad-off _ (c .before .before .loop-test .taken)
-    (ne-eqb _ _ (λ e. c .if1 .taken (c .before .word .ensures .0 ∙ e ∙ sym (l .inv .2)))))
+    (ne-eqb (offsetIn file (l .i)) (bodyAt (threadsIn file) + sumTo (countIn file) (l .i)) (λ e. omega arith)))
     ∙ l .inv .3
 
 add-word : tie.Need-add-word Inv-loop μ-loop
@@ -68,7 +69,7 @@ loop-again c =
       omega arith,
       omega (arith, sum-on (countIn file) (l .i)),
       sym (bad-on _ (c .before .before .before .loop-test .taken)
-          (eq-eqb _ _ (sym (c .before .before .word .ensures .0) ∙ c .before .if1 .left ∙ l .inv .2)))
+          (eq-eqb (offsetIn file (l .i)) (bodyAt (threadsIn file) + sumTo (countIn file) (l .i)) (omega arith)))
           ∙ l .inv .3,
     )
 

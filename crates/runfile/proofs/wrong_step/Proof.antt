@@ -1,3 +1,5 @@
+use native.Mathlib.Omega.{arith}
+use lib.ListN.{getD}
 use Prim.Native.Nat.{_-_, _≤_}
 use mathlib.Core.Path.{_≡_, sym, _∙_}
 use borrow.Author.Tests.{lt-ltb, le-ltb}
@@ -24,7 +26,9 @@ shared-slice-read-step c = search needs
 returns : tie.Need-returns Inv-loop μ-loop
 returns c =
     let l = c .before .before .before .loop in
-    sym (bad-off _ (c .before .before .loop-test .taken) (le-ltb _ _ (c .if1 .taken))) ∙ l .inv .1
+    let s = c .before .before .before .before .args in
+    sym (bad-off _ (c .before .before .loop-test .taken) (le-ltb (getD (s .bytes .now) (l .p) 0) (s .threads) (omega arith)))
+    ∙ l .inv .1
 
 add-p : tie.Need-add-p Inv-loop μ-loop
 add-p c = search needs
@@ -35,7 +39,11 @@ loop-less c = search needs
 loop-again : tie.Need-loop-again Inv-loop μ-loop
 loop-again c =
     let l = c .before .before .before .loop in
-    (search needs, sym (bad-on _ (c .before .before .loop-test .taken) (lt-ltb _ _ (c .if1 .left))) ∙ l .inv .1)
+    let s = c .before .before .before .before .args in (
+      search needs,
+      sym (bad-on _ (c .before .before .loop-test .taken) (lt-ltb (getD (s .bytes .now) (l .p) 0) (s .threads) (omega arith)))
+          ∙ l .inv .1,
+    )
 
 returns-2 : tie.Need-returns-2 Inv-loop μ-loop
 returns-2 c = sym (bad-end _ (c .loop-test .left)) ∙ c .before .loop .inv .1

@@ -1,0 +1,16 @@
+use borrow.Author.Needs.{needs}
+use Rattle.machine.proofs.figure3.afterwards.Statement.{statement}
+use Rattle.machine.proofs.figure3.afterwards.Tie as tie
+
+pub afterwards-spec : {M : Type 1} → statement M
+afterwards-spec =
+    tie.close
+    (tie.spec
+    (λ c. search needs)
+    (λ c. search needs)
+    (λ c. search needs)
+    (λ c. search needs)
+    (λ c. simp (c .before .a .given .1))
+    (λ c. simp (c .before .a2 .given .1))
+    (λ c. simp (c .before .a3 .given .1))
+    (λ c. simp (c .before .a4 .given .1)))

@@ -1,0 +1,11 @@
+use Rattle.machine.proofs.figure3.help_unlink.Statement.{statement}
+use Rattle.machine.proofs.figure3.help_unlink.Tie as tie
+
+pub help-unlink-spec : {M : Type 1} → statement M
+help-unlink-spec =
+    tie.close
+    (tie.spec
+    (λ c κs. tt)
+    (λ c κs. tt)
+    (λ c. simp (simp (c .before .is-marked .ensures) at (c .if1 .taken), c .before .is-marked .ensures))
+    (λ c. simp (c .goes-to .ensures, simp (c .before .before .is-marked .ensures) at (c .before .if1 .left), c .before .before .is-marked .ensures)))

@@ -1,0 +1,19 @@
+use borrow.Author.Needs.{needs}
+use Rattle.machine.proofs.figure3.link.Statement.{statement}
+use Rattle.machine.proofs.figure3.link.Tie as tie
+
+pub link-spec : {M : Type 1} → statement M
+link-spec =
+    tie.close
+    (tie.spec
+    (λ c κs. tt)
+    (λ c. search needs)
+    (λ c κs. tt)
+    (λ c κs. tt)
+    (λ c. search needs)
+    (λ c κs. tt)
+    (λ c. search needs)
+    (λ c κs. tt)
+    (λ c. simp (c .update-then .ensures, c .before .insertion .ensures, c .before .before .enum-told .given .1, c .before .before .before .before .node-of .ensures))
+    (λ c. simp (c .goes-to .ensures, c .before .enum-told2 .given .1, c .before .before .before .node-of .ensures))
+    (λ c. simp (c .goes-to2 .ensures, c .before .enum-told3 .given .1, c .before .before .before .node-of .ensures)))

@@ -1,0 +1,12 @@
+use borrow.Author.Needs.{needs}
+use Rattle.machine.proofs.figure3.size_next.Statement.{statement}
+use Rattle.machine.proofs.figure3.size_next.Tie as tie
+
+pub size-next-spec : {M : Type 1} → statement M
+size-next-spec =
+    tie.close
+    (tie.spec
+    (λ c. search needs)
+    (λ c. search needs)
+    (λ c. simp (c .before .x .given .1))
+    (λ c. simp (c .before .x2 .given .1)))

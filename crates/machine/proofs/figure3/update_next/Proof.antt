@@ -1,0 +1,13 @@
+use borrow.Author.Needs.{needs}
+use Rattle.machine.proofs.figure3.update_next.Statement.{statement}
+use Rattle.machine.proofs.figure3.update_next.Tie as tie
+
+pub update-next-spec : {M : Type 1} → statement M
+update-next-spec =
+    tie.close
+    (tie.spec
+    (λ c. search needs)
+    (λ c. search needs)
+    (λ c κs. tt)
+    (λ c. simp (c .before .x .given .1))
+    (λ c. search needs))

@@ -1,0 +1,10 @@
+use Rattle.machine.proofs.figure3.updating.Statement.{statement}
+use Rattle.machine.proofs.figure3.updating.Tie as tie
+
+pub updating-spec : {M : Type 1} → statement M
+updating-spec =
+    tie.close
+    (tie.spec
+    (λ c κs. tt)
+    (λ c κs. tt)
+    (λ c. simp (c .update-next .ensures, c .before .update .ensures)))

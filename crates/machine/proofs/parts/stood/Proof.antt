@@ -1,0 +1,15 @@
+use borrow.Author.Needs.{needs}
+use Rattle.machine.proofs.parts.stood.Statement.{statement}
+use Rattle.machine.proofs.parts.stood.Tie as tie
+
+pub stood-spec : {M : Type 1} → statement M
+stood-spec =
+    tie.close
+    (tie.spec
+    (λ c κs. tt)
+    (λ c. search needs)
+    (λ c κs. tt)
+    (λ c. search needs)
+    (λ c κs. tt)
+    (λ c. simp (c .standing .ensures, c .before .before .x .given .1, c .before .before .before .before .kept .ensures))
+    (λ c. simp (c .finished .ensures, c .before .enum-told .given .1, c .before .before .before .kept .ensures)))

@@ -1,0 +1,162 @@
+-- What an access changes, part by part: of its operation's record, of its thread, of its slot and of the calculator. The
+-- contracts of the functions that make these changes cite them; that they make up a step is proved in proofs/Together.antt.
+use Prim.Native.Nat.{ℕ}
+use mathlib.Core.List.{List}
+use lib.ListN.{getD, set}
+use Rattle.terms.specs.declared.ThreadId.{ThreadId}
+use Rattle.terms.specs.declared.OpId.{OpId}
+use Rattle.terms.specs.declared.SnapshotId.{SnapshotId}
+use Rattle.figures.specs.declared.Counts.{Counts}
+use Rattle.figures.specs.declared.Calculator.{Calculator}
+use Rattle.figures.specs.declared.UpdateDeed.{UpdateDeed}
+use Rattle.figures.specs.declared.UpdateDeed.the-variants.{Reads, Raises, Forwards}
+use Rattle.figures.specs.declared.SizeDeed.{SizeDeed}
+use Rattle.figures.specs.declared.SizeDeed.the-variants.{Looks, Announces, Collects, Lowers, Keeps, Fixes, Shares}
+use Rattle.figures.specs.declared.Content.{Content}
+use Rattle.figures.specs.declared.Content.the-variants.{Empty, Live, Marked}
+use Rattle.figures.specs.declared.Update.{Update}
+use Rattle.figures.specs.declared.Deed.{Deed}
+use Rattle.figures.specs.declared.Deed.the-variants.{Rests, Finds, Links, Marks, Unlinks, Updates, Sizes}
+use Rattle.figures.specs.declared.Next.{Next}
+use Rattle.figures.specs.declared.Next.the-variants.{To, Returns}
+use Rattle.figures.specs.declared.Local.{Local}
+use Rattle.figures.specs.declared.Asked.{Asked}
+use Rattle.figures.specs.declared.Record.{Record}
+use Rattle.figures.specs.declared.Move.{Move}
+use Rattle.figures.specs.declared.Machine.{Machine}
+use Rattle.figures.specs.Figure4.{more, blockOf, setCount, raised, written, announced, lowered, fixed, windowOf, sightOf}
+use Rattle.figures.specs.Figure3.{cellOf, looksAtCell, looksAtSnapshot}
+use Rattle.figures.specs.Step.{noRecord, noSlot, noLocal, withLook, withUsed, counted, answered, exchangedAt, raisedAt, withSeen, standing, finished, standsAt, accessOf}
+
+-- ---- The access that thread t makes, by where it stands; between operations it begins the next one.
+
+abbrev pub madeBy : ThreadId → Local → Asked → ℕ → Calculator → Content → Move
+madeBy t l a threads c held =
+    let p = standsAt (l .point) (a .call) in
+    accessOf p t (l .op) (a .call) threads (l .seen) (sightOf c (looksAtSnapshot p) (looksAtCell t p)) held
+
+-- ---- Of the operation's record: the step is counted; what the deed tells of it; the answer.
+
+abbrev pub usedBy : SizeDeed → Record → Record
+usedBy Looks r = r
+usedBy Announces r = r
+usedBy (Collects n j v) r = r
+usedBy (Lowers n) r = r
+usedBy (Keeps j v) r = r
+usedBy (Fixes n v) r = withUsed n r
+usedBy (Shares n) r = withUsed n r
+
+abbrev pub notedBy : ℕ → Deed → Record → Record
+notedBy step Rests r = r
+notedBy step (Finds c) r = withLook (record { read = step; found = c }) r
+notedBy step (Links n) r = exchangedAt (n .note .1) step r
+notedBy step (Marks n d) r = exchangedAt (d .note .1) step r
+notedBy step Unlinks r = r
+notedBy step (Updates d u) r = r
+notedBy step (Sizes d) r = usedBy d r
+
+abbrev pub answeredBy : ℕ → Next → Record → Record
+answeredBy step (To p) r = r
+answeredBy step (Returns a) r = answered a step r
+
+abbrev pub recordedBy : ℕ → Deed → Next → Record → Record
+recordedBy step d x r = answeredBy step x (notedBy step d (counted step r))
+
+-- ---- Of the thread: the values that it keeps for a sum; where it goes on.
+
+abbrev pub seenBy : SizeDeed → Local → Local
+seenBy Looks l = l
+seenBy Announces l = l
+seenBy (Collects n j v) l = l
+seenBy (Lowers n) l = withSeen (blockOf 0) l
+seenBy (Keeps j v) l = withSeen (setCount (l .seen) j v) l
+seenBy (Fixes n v) l = l
+seenBy (Shares n) l = l
+
+abbrev pub keptBy : Deed → Local → Local
+keptBy Rests l = l
+keptBy (Finds c) l = l
+keptBy (Links n) l = l
+keptBy (Marks n d) l = l
+keptBy Unlinks l = l
+keptBy (Updates d u) l = l
+keptBy (Sizes d) l = seenBy d l
+
+abbrev pub goesBy : Next → Local → Local
+goesBy (To p) l = standing p l
+goesBy (Returns a) l = finished l
+
+abbrev pub stoodBy : Deed → Next → Local → Local
+stoodBy d x l = goesBy x (keptBy d l)
+
+-- ---- Of the slot.
+
+abbrev pub heldBy : Deed → Content → Content
+heldBy Rests c = c
+heldBy (Finds f) c = c
+heldBy (Links n) c = Live n
+heldBy (Marks n d) c = Marked n d
+heldBy Unlinks c = Empty
+heldBy (Updates d u) c = c
+heldBy (Sizes d) c = c
+
+-- ---- Of the calculator.
+
+abbrev pub updatedBy : UpdateDeed → Update → Calculator → Calculator
+updatedBy Reads u c = c
+updatedBy Raises u c = raised (cellOf u) (u .node .note .1 .0) c
+updatedBy (Forwards n) u c = written n (cellOf u) (u .node .note .1 .0) c
+
+abbrev pub sizedBy : SizeDeed → ℕ → List Counts → Calculator → Calculator
+sizedBy Looks step seen c = c
+sizedBy Announces step seen c = announced step c
+sizedBy (Collects n j v) step seen c = written n j v c
+sizedBy (Lowers n) step seen c = lowered n step c
+sizedBy (Keeps j v) step seen c = c
+sizedBy (Fixes n v) step seen c = fixed n v seen c
+sizedBy (Shares n) step seen c = c
+
+abbrev pub calculatedBy : Deed → ℕ → List Counts → Calculator → Calculator
+calculatedBy Rests step seen c = c
+calculatedBy (Finds f) step seen c = c
+calculatedBy (Links n) step seen c = c
+calculatedBy (Marks n d) step seen c = c
+calculatedBy Unlinks step seen c = c
+calculatedBy (Updates d u) step seen c = updatedBy d u c
+calculatedBy (Sizes d) step seen c = sizedBy d step seen c
+
+-- ---- Of another operation's record: an update that is raised, by whichever thread, has its step.
+
+abbrev pub raisedRecord : ℕ → SnapshotId → OpId → List Record → List Record
+raisedRecord step w o rs = set rs (o .0) (raisedAt step w (getD rs (o .0) noRecord))
+
+-- the operation that is raised; 255 where none is
+abbrev pub raisesOp : UpdateDeed → Update → OpId
+raisesOp Reads u = record { 0 = 255 }
+raisesOp Raises u = u .node .op
+raisesOp (Forwards n) u = record { 0 = 255 }
+
+abbrev pub raisedOp : Deed → OpId
+raisedOp Rests = record { 0 = 255 }
+raisedOp (Finds c) = record { 0 = 255 }
+raisedOp (Links n) = record { 0 = 255 }
+raisedOp (Marks n d) = record { 0 = 255 }
+raisedOp Unlinks = record { 0 = 255 }
+raisedOp (Updates d u) = raisesOp d u
+raisedOp (Sizes d) = record { 0 = 255 }
+
+-- ---- Together: the machine after an access that looked up slot `key`, with these deed and next.
+
+abbrev pub actedBy : Deed → Next → ℕ → ℕ → OpId → ℕ → Machine → Machine
+actedBy d x step t o key m =
+    let l = getD (m .locals) t (noLocal) in
+    record {
+      threads = m .threads;
+      keys = m .keys;
+      clock = step;
+      idle = m .idle;
+      calculator = calculatedBy d step (l .seen) (m .calculator);
+      slots = set (m .slots) key (record { content = heldBy d (getD (m .slots) key noSlot .content) });
+      locals = set (m .locals) t (stoodBy d x l);
+      records = raisedRecord step (windowOf (m .calculator)) (raisedOp d) (set (m .records) (o .0) (recordedBy step d x (getD (m .records) (o .0) noRecord)));
+    }

@@ -1,0 +1,286 @@
+// What an access changes, part by part: of its operation's record, of its thread, of its slot and of the calculator.
+use super::figure3::cell_of;
+use calculator::figure4::announced;
+use calculator::figure4::block_of;
+use calculator::figure4::fixed;
+use calculator::figure4::lowered;
+use calculator::figure4::one_more;
+use calculator::figure4::one_more_byte;
+use calculator::figure4::raised;
+use calculator::figure4::set_count;
+use calculator::figure4::written;
+use figures::Calculator;
+use figures::Content;
+use figures::Counts;
+use figures::Deed;
+use figures::Local;
+use figures::Look;
+use figures::Next;
+use figures::Outcome;
+use figures::Point;
+use figures::Record;
+use figures::SizeDeed;
+use figures::Update;
+use figures::UpdateDeed;
+use terms::OpId;
+use terms::SnapshotId;
+use terms::Target;
+ghost use mathlib.Core.Path.{_≡_};
+ghost use mathlib.Core.Bool.{cond};
+ghost use lib.Dec.{eqb};
+ghost use Rattle.figures.specs.Step.{withLook, withUsed, counted, answered, exchangedAt, raisedAt, standing, finished};
+ghost use Rattle.machine.specs.Parts.{usedBy, notedBy, recordedBy, seenBy, keptBy, stoodBy, heldBy, updatedBy, sizedBy, calculatedBy, raisedOp};
+
+// An operation's first step, after one more.
+fn begun(first: u32, step: u32) -> u32
+    ensures { λ r. ⌜ r ≡ cond (eqb first 0) step first ⌝ }
+{
+    if first == 0 { step } else { first }
+}
+
+// One own step more; the first is the operation's beginning.
+fn counted(r: Record, step: u32) -> Record
+    ensures { λ s. ⌜ s ≡ counted step r ⌝ }
+{
+    let mut s = r;
+    let x = r.outcome;
+    let y = Outcome { answer: x.answer, first: begun(x.first, step), last: x.last, own: one_more(x.own) };
+    s.outcome = y;
+    s
+}
+
+fn answered(r: Record, a: u32, step: u32) -> Record
+    ensures { λ s. ⌜ s ≡ answered a step r ⌝ }
+{
+    let mut s = r;
+    let x = r.outcome;
+    let y = Outcome { answer: a, first: x.first, last: step, own: x.own };
+    s.outcome = y;
+    s
+}
+
+fn looked(r: Record, step: u32, c: Content) -> Record
+    ensures { λ s. ⌜ s ≡ withLook (record { read = step; found = c }) r ⌝ }
+{
+    let mut s = r;
+    let x = Look { read: step, found: c };
+    s.look = x;
+    s
+}
+
+fn exchanged_at(r: Record, c: Target, step: u32) -> Record
+    ensures { λ s. ⌜ s ≡ exchangedAt c step r ⌝ }
+{
+    let mut s = r;
+    let mut x = r.change;
+    x.target = c;
+    x.exchanged = step;
+    s.change = x;
+    s
+}
+
+pub fn raised_at(r: Record, step: u32, w: SnapshotId) -> Record
+    ensures { λ s. ⌜ s ≡ raisedAt step w r ⌝ }
+{
+    let mut s = r;
+    let mut x = r.change;
+    x.raised = step;
+    x.window = w;
+    s.change = x;
+    s
+}
+
+fn used(r: Record, n: SnapshotId) -> Record
+    ensures { λ s. ⌜ s ≡ withUsed n r ⌝ }
+{
+    let mut s = r;
+    s.snapshot = n;
+    s
+}
+
+// A size that is answered took its answer from a snapshot.
+fn used_by(r: Record, d: SizeDeed) -> Record
+    ensures { λ s. ⌜ s ≡ usedBy d r ⌝ }
+{
+    match d {
+        SizeDeed::Looks => r,
+        SizeDeed::Announces => r,
+        SizeDeed::Collects(_, _, _) => r,
+        SizeDeed::Lowers(_) => r,
+        SizeDeed::Keeps(_, _) => r,
+        SizeDeed::Fixes(n, _) => used(r, n),
+        SizeDeed::Shares(n) => used(r, n),
+    }
+}
+
+// What the deed tells of its operation.
+fn noted(r: Record, step: u32, d: Deed) -> Record
+    ensures { λ s. ⌜ s ≡ notedBy step d r ⌝ }
+{
+    match d {
+        Deed::Rests => r,
+        Deed::Finds(c) => looked(r, step, c),
+        Deed::Links(n) => exchanged_at(r, n.note.1, step),
+        Deed::Marks(_, x) => exchanged_at(r, x.note.1, step),
+        Deed::Unlinks => r,
+        Deed::Updates(_, _) => r,
+        Deed::Sizes(x) => used_by(r, x),
+    }
+}
+
+// The operation's record after the step.
+pub fn recorded(r: Record, step: u32, d: Deed, x: Next) -> Record
+    ensures { λ s. ⌜ s ≡ recordedBy step d x r ⌝ }
+{
+    let s = noted(counted(r, step), step, d);
+    match x {
+        Next::To(_) => s,
+        Next::Returns(a) => answered(s, a, step),
+    }
+}
+
+fn with_seen(l: Local, b: [Counts; 8]) -> Local
+    ensures { λ s. ⌜ s ≡ Rattle.figures.specs.Step.withSeen b l ⌝ }
+{
+    let mut s = l;
+    s.seen = b;
+    s
+}
+
+// The values that a thread keeps for its sum: none when it begins to sum, and one more with each cell.
+fn seen_by(l: Local, d: SizeDeed) -> Local
+    ensures { λ s. ⌜ s ≡ seenBy d l ⌝ }
+{
+    match d {
+        SizeDeed::Looks => l,
+        SizeDeed::Announces => l,
+        SizeDeed::Collects(_, _, _) => l,
+        SizeDeed::Lowers(_) => with_seen(l, block_of(0)),
+        SizeDeed::Keeps(j, v) => {
+            let b = l.seen;
+            with_seen(l, set_count(b, j, v))
+        }
+        SizeDeed::Fixes(_, _) => l,
+        SizeDeed::Shares(_) => l,
+    }
+}
+
+fn kept(l: Local, d: Deed) -> Local
+    ensures { λ s. ⌜ s ≡ keptBy d l ⌝ }
+{
+    match d {
+        Deed::Rests => l,
+        Deed::Finds(_) => l,
+        Deed::Links(_) => l,
+        Deed::Marks(_, _) => l,
+        Deed::Unlinks => l,
+        Deed::Updates(_, _) => l,
+        Deed::Sizes(x) => seen_by(l, x),
+    }
+}
+
+fn standing(l: Local, p: Point) -> Local
+    ensures { λ s. ⌜ s ≡ standing p l ⌝ }
+{
+    let o = l.op;
+    let e = l.end;
+    let b = l.seen;
+    Local { point: p, op: o, end: e, seen: b }
+}
+
+fn finished(l: Local) -> Local
+    ensures { λ s. ⌜ s ≡ finished l ⌝ }
+{
+    let o = l.op;
+    let e = l.end;
+    let b = l.seen;
+    Local { point: Point::Idle, op: OpId(one_more_byte(o.0)), end: e, seen: b }
+}
+
+// The thread after the step.
+pub fn stood(l: Local, d: Deed, x: Next) -> Local
+    ensures { λ s. ⌜ s ≡ stoodBy d x l ⌝ }
+{
+    let s = kept(l, d);
+    match x {
+        Next::To(p) => standing(s, p),
+        Next::Returns(_) => finished(s),
+    }
+}
+
+// The slot after the step.
+pub fn held_after(c: Content, d: Deed) -> Content
+    ensures { λ s. ⌜ s ≡ heldBy d c ⌝ }
+{
+    match d {
+        Deed::Rests => c,
+        Deed::Finds(_) => c,
+        Deed::Links(n) => Content::Live(n),
+        Deed::Marks(n, x) => Content::Marked(n, x),
+        Deed::Unlinks => Content::Empty,
+        Deed::Updates(_, _) => c,
+        Deed::Sizes(_) => c,
+    }
+}
+
+fn updated(c: Calculator, d: UpdateDeed, u: Update) -> Calculator
+    ensures { λ s. ⌜ s ≡ updatedBy d u c ⌝ }
+{
+    let j = cell_of(u);
+    match d {
+        UpdateDeed::Reads => c,
+        UpdateDeed::Raises => raised(c, j, u.node.note.1.0),
+        UpdateDeed::Forwards(n) => written(c, n, j, u.node.note.1.0),
+    }
+}
+
+fn sized(c: Calculator, d: SizeDeed, step: u32, seen: [Counts; 8]) -> Calculator
+    ensures { λ s. ⌜ s ≡ sizedBy d step seen c ⌝ }
+{
+    match d {
+        SizeDeed::Looks => c,
+        SizeDeed::Announces => announced(c, step),
+        SizeDeed::Collects(n, j, v) => written(c, n, j, v),
+        SizeDeed::Lowers(n) => lowered(c, n, step),
+        SizeDeed::Keeps(_, _) => c,
+        SizeDeed::Fixes(n, v) => fixed(c, n, v, seen),
+        SizeDeed::Shares(_) => c,
+    }
+}
+
+// The calculator after the step.
+pub fn calculated(c: Calculator, d: Deed, step: u32, seen: [Counts; 8]) -> Calculator
+    ensures { λ s. ⌜ s ≡ calculatedBy d step seen c ⌝ }
+{
+    match d {
+        Deed::Rests => c,
+        Deed::Finds(_) => c,
+        Deed::Links(_) => c,
+        Deed::Marks(_, _) => c,
+        Deed::Unlinks => c,
+        Deed::Updates(x, u) => updated(c, x, u),
+        Deed::Sizes(x) => sized(c, x, step, seen),
+    }
+}
+
+// The operation whose counter comes to its target; 255 where none does.
+pub fn raised_op(d: Deed) -> OpId
+    ensures { λ s. ⌜ s ≡ raisedOp d ⌝ }
+{
+    match d {
+        Deed::Rests => OpId(255),
+        Deed::Finds(_) => OpId(255),
+        Deed::Links(_) => OpId(255),
+        Deed::Marks(_, _) => OpId(255),
+        Deed::Unlinks => OpId(255),
+        Deed::Updates(x, u) => {
+            let o = u.node.op;
+            match x {
+                UpdateDeed::Reads => OpId(255),
+                UpdateDeed::Raises => o,
+                UpdateDeed::Forwards(_) => OpId(255),
+            }
+        }
+        Deed::Sizes(_) => OpId(255),
+    }
+}

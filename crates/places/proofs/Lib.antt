@@ -1,0 +1,4 @@
+pub mod Beyond
+pub mod Filled
+pub mod Selected
+pub mod Unique

@@ -1,0 +1,4 @@
+// Where each operation stands in the log (rules.rt), and the log itself, which is written to a lent buffer (writing.rt).
+// What each must yield is defined in the crates `figures` (specs/Places.antt) and `history` (specs/Order.antt).
+pub mod rules;
+pub mod writing;

@@ -1,0 +1,73 @@
+/* The proved library as C calls it; link target/staticlib/libface.a (x86-64 Linux). A lent buffer is a pointer and a count, and no
+   pointer may be null, not even one with count 0. Numbers, refusals and buffers are those of document 01. */
+#ifndef PSZENORAD_H
+#define PSZENORAD_H
+
+#include <stdbool.h>
+#include <stddef.h>
+#include <stdint.h>
+
+#ifdef __cplusplus
+extern "C" {
+#endif
+
+#define PSZENORAD_INVALID UINT32_C(4294967295)
+
+/* number is 0 where the file is accepted; else number and place of the refusal, and every other number 0 */
+typedef struct {
+    uint32_t number;
+    size_t place;
+    uint8_t threads;
+    uint8_t keys;
+    uint16_t counts[8];
+    size_t operations_at;
+    size_t operations;
+    size_t schedule_at;
+    size_t steps;
+} pszenorad_read_answer;
+
+typedef struct {
+    uint32_t number;
+    size_t place;
+    size_t length;
+} pszenorad_write_answer;
+
+typedef struct {
+    uint32_t number;
+    size_t place;
+    size_t entries;
+    uint32_t idle;
+    uint32_t snapshots;
+} pszenorad_run_answer;
+
+typedef struct {
+    uint32_t insertions;
+    uint32_t deletions;
+} pszenorad_cells;
+
+typedef struct {
+    pszenorad_cells cells[8];
+    bool collecting;
+    uint32_t size;
+} pszenorad_snapshot;
+
+pszenorad_read_answer pszenorad_read(const uint8_t *file, size_t length);
+
+pszenorad_write_answer pszenorad_write(uint8_t threads, uint8_t keys, const uint16_t *counts, size_t counts_length,
+                                       const uint8_t *operations, size_t operations_length, const uint8_t *schedule,
+                                       size_t schedule_length, uint8_t *out, size_t out_length);
+
+/* results: 4 numbers per operation; log: 2 per entry */
+pszenorad_run_answer pszenorad_run(const uint8_t *file, size_t length, uint32_t *results, size_t results_length,
+                                   uint32_t *log, size_t log_length);
+
+/* table: one record more than there are size operations */
+pszenorad_run_answer pszenorad_run_lent(const uint8_t *file, size_t length, uint32_t *results, size_t results_length,
+                                        uint32_t *log, size_t log_length, pszenorad_snapshot *table,
+                                        size_t table_length);
+
+#ifdef __cplusplus
+}
+#endif
+
+#endif
