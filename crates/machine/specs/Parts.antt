@@ -64,30 +64,30 @@ recordedBy step d x r = answeredBy step x (notedBy step d (counted step r))
 
 -- ---- Of the thread: the values that it keeps for a sum; where it goes on.
 
-abbrev pub seenBy : SizeDeed → Local → Local
-seenBy Looks l = l
-seenBy Announces l = l
-seenBy (Collects n j v) l = l
-seenBy (Lowers n) l = withSeen (blockOf 0) l
-seenBy (Keeps j v) l = withSeen (setCount (l .seen) j v) l
-seenBy (Fixes n v) l = l
-seenBy (Shares n) l = l
+abbrev pub summedBy : SizeDeed → List Counts → List Counts
+summedBy Looks b = b
+summedBy Announces b = b
+summedBy (Collects n j v) b = b
+summedBy (Lowers n) b = blockOf 0
+summedBy (Keeps j v) b = setCount b j v
+summedBy (Fixes n v) b = b
+summedBy (Shares n) b = b
 
-abbrev pub keptBy : Deed → Local → Local
-keptBy Rests l = l
-keptBy (Finds c) l = l
-keptBy (Links n) l = l
-keptBy (Marks n d) l = l
-keptBy Unlinks l = l
-keptBy (Updates d u) l = l
-keptBy (Sizes d) l = seenBy d l
+abbrev pub seenBy : Deed → List Counts → List Counts
+seenBy Rests b = b
+seenBy (Finds c) b = b
+seenBy (Links n) b = b
+seenBy (Marks n d) b = b
+seenBy Unlinks b = b
+seenBy (Updates d u) b = b
+seenBy (Sizes d) b = summedBy d b
 
 abbrev pub goesBy : Next → Local → Local
 goesBy (To p) l = standing p l
 goesBy (Returns a) l = finished l
 
 abbrev pub stoodBy : Deed → Next → Local → Local
-stoodBy d x l = goesBy x (keptBy d l)
+stoodBy d x l = goesBy x (withSeen (seenBy d (l .seen)) l)
 
 -- ---- Of the slot.
 

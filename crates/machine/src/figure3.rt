@@ -29,32 +29,48 @@ use terms::SnapshotId;
 use terms::Target;
 use terms::ThreadId;
 ghost use mathlib.Core.Path.{_≡_};
+ghost use Rattle.figures.specs.declared.Next.the-variants.{To};
 ghost use Rattle.figures.specs.Figure3.{insertion, deletion, nodeOf, isLive, isMarked, goesTo, containsFound, insertFound, deleteFound, found, readSlot, countInsertions, link, helpUnlink, countDeletions, mark, unlink, afterwards, updateNext, updating, sizeNext, sizing, entry, cellOf, looksAtCell, looksAtSnapshot};
 ghost use Rattle.figures.specs.Step.{standsAt, accessOf};
 
 fn insertion(n: Node) -> Update
     ensures { λ r. ⌜ r ≡ insertion n ⌝ }
 {
-    Update { kind: Kind::Insertion, node: n }
+    Update {
+        kind: Kind::Insertion,
+        node: n,
+    }
 }
 
 fn deletion(d: Node) -> Update
     ensures { λ r. ⌜ r ≡ deletion d ⌝ }
 {
-    Update { kind: Kind::Deletion, node: d }
+    Update {
+        kind: Kind::Deletion,
+        node: d,
+    }
 }
 
 fn node_of(t: ThreadId, c: Target, o: OpId) -> Node
     ensures { λ r. ⌜ r ≡ nodeOf t c o ⌝ }
 {
-    Node { note: Note(t, c), op: o }
+    Node {
+        note: Note(t, c),
+        op: o,
+    }
+}
+
+fn to(p: Point) -> Next
+    ensures { λ r. ⌜ r ≡ To p ⌝ }
+{
+    Next::To(p)
 }
 
 // Update metadata, and then what follows.
 fn update_then(u: Update, a: After) -> Next
     ensures { λ r. ⌜ r ≡ Rattle.figures.specs.Figure3.update u a ⌝ }
 {
-    Next::To(Point::Updating(UpdatePoint::ReadCount, u, a))
+    to(Point::Updating(UpdatePoint::ReadCount, u, a))
 }
 
 fn is_live(n: Node, c: Content) -> bool
@@ -73,14 +89,24 @@ fn is_marked(n: Node, d: Node, c: Content) -> bool
     match c {
         Content::Empty => false,
         Content::Live(_) => false,
-        Content::Marked(a, b) => if a.op.0 == n.op.0 { b.op.0 == d.op.0 } else { false },
+        Content::Marked(a, b) => if a.op.0 == n.op.0 {
+            b.op.0 == d.op.0
+        } else {
+            false
+        },
     }
+}
+
+fn moves(x: Next, d: Deed) -> Move
+    ensures { λ r. ⌜ r ≡ record { next = x; deed = d } ⌝ }
+{
+    Move { next: x, deed: d }
 }
 
 fn goes_to(p: Point) -> Move
     ensures { λ r. ⌜ r ≡ goesTo p ⌝ }
 {
-    Move { next: Next::To(p), deed: Deed::Rests }
+    moves(to(p), Deed::Rests)
 }
 
 // Contains, lines 7 to 14.
@@ -99,7 +125,7 @@ fn insert_found(c: Content) -> Next
     ensures { λ r. ⌜ r ≡ insertFound c ⌝ }
 {
     match c {
-        Content::Empty => Next::To(Point::CountInsertions),
+        Content::Empty => to(Point::CountInsertions),
         Content::Live(n) => update_then(insertion(n), After::Answer(0)),
         Content::Marked(n, d) => update_then(deletion(d), After::ToHelpUnlink(n, d)),
     }
@@ -133,7 +159,7 @@ fn read_slot(k: Call, c: Content) -> Move
     ensures { λ r. ⌜ r ≡ readSlot k c ⌝ }
 {
     let n = found(k, c);
-    Move { next: n, deed: Deed::Finds(c) }
+    moves(n, Deed::Finds(c))
 }
 
 // Lines 22 and 85: read own insertion counter; the target is that plus 1.
@@ -151,7 +177,7 @@ fn link(t: ThreadId, o: OpId, c: Target, held: Content) -> Move
     match held {
         Content::Empty => {
             let x = update_then(insertion(n), After::Answer(1));
-            Move { next: x, deed: Deed::Links(n) }
+            moves(x, Deed::Links(n))
         }
         Content::Live(_) => goes_to(Point::ReadSlot),
         Content::Marked(_, _) => goes_to(Point::ReadSlot),
@@ -163,7 +189,7 @@ fn help_unlink(n: Node, d: Node, c: Content) -> Move
     ensures { λ r. ⌜ r ≡ helpUnlink n d c ⌝ }
 {
     if is_marked(n, d, c) {
-        Move { next: Next::To(Point::ReadSlot), deed: Deed::Unlinks }
+        moves(to(Point::ReadSlot), Deed::Unlinks)
     } else {
         goes_to(Point::ReadSlot)
     }
@@ -183,7 +209,7 @@ fn mark(t: ThreadId, o: OpId, n: Node, c: Target, held: Content) -> Move
     let d = node_of(t, c, o);
     if is_live(n, held) {
         let x = update_then(deletion(d), After::ToUnlink(n, d));
-        Move { next: x, deed: Deed::Marks(n, d) }
+        moves(x, Deed::Marks(n, d))
     } else {
         goes_to(Point::ReadSlot)
     }
@@ -193,10 +219,11 @@ fn mark(t: ThreadId, o: OpId, n: Node, c: Target, held: Content) -> Move
 fn unlink(n: Node, d: Node, c: Content) -> Move
     ensures { λ r. ⌜ r ≡ unlink n d c ⌝ }
 {
+    let x = Next::Returns(1);
     if is_marked(n, d, c) {
-        Move { next: Next::Returns(1), deed: Deed::Unlinks }
+        moves(x, Deed::Unlinks)
     } else {
-        Move { next: Next::Returns(1), deed: Deed::Rests }
+        moves(x, Deed::Rests)
     }
 }
 
@@ -206,9 +233,9 @@ fn afterwards(a: After) -> Next
 {
     match a {
         After::Answer(x) => Next::Returns(x),
-        After::ToMark(n) => Next::To(Point::CountDeletions(n)),
-        After::ToHelpUnlink(n, d) => Next::To(Point::HelpUnlink(n, d)),
-        After::ToUnlink(n, d) => Next::To(Point::Unlink(n, d)),
+        After::ToMark(n) => to(Point::CountDeletions(n)),
+        After::ToHelpUnlink(n, d) => to(Point::HelpUnlink(n, d)),
+        After::ToUnlink(n, d) => to(Point::Unlink(n, d)),
     }
 }
 
@@ -216,7 +243,7 @@ fn update_next(x: UpdateNext, u: Update, a: After) -> Next
     ensures { λ r. ⌜ r ≡ updateNext x u a ⌝ }
 {
     match x {
-        UpdateNext::Then(p) => Next::To(Point::Updating(p, u, a)),
+        UpdateNext::Then(p) => to(Point::Updating(p, u, a)),
         UpdateNext::Done => afterwards(a),
     }
 }
@@ -230,14 +257,14 @@ fn updating(p: UpdatePoint, u: Update, a: After, s: Sight) -> Move
     let x = v.next;
     let d = v.deed;
     let n = update_next(x, u, a);
-    Move { next: n, deed: Deed::Updates(d, u) }
+    moves(n, Deed::Updates(d, u))
 }
 
 fn size_next(x: SizeNext) -> Next
     ensures { λ r. ⌜ r ≡ sizeNext x ⌝ }
 {
     match x {
-        SizeNext::Goes(p) => Next::To(Point::Sizing(p)),
+        SizeNext::Goes(p) => to(Point::Sizing(p)),
         SizeNext::Sized(a) => Next::Returns(a),
     }
 }
@@ -250,7 +277,7 @@ fn sizing(p: SizePoint, threads: u8, seen: [Counts; 8], s: Sight) -> Move
     let x = v.next;
     let d = v.deed;
     let n = size_next(x);
-    Move { next: n, deed: Deed::Sizes(d) }
+    moves(n, Deed::Sizes(d))
 }
 
 // The first access of an operation.
@@ -281,10 +308,16 @@ pub fn looks_at_cell(t: ThreadId, p: Point) -> Cell
         Point::Idle => first_cell(),
         Point::ReadSlot => first_cell(),
         Point::Updating(_, u, _) => cell_of(u),
-        Point::CountInsertions => Cell { thread: t, kind: Kind::Insertion },
+        Point::CountInsertions => Cell {
+            thread: t,
+            kind: Kind::Insertion,
+        },
         Point::Link(_) => first_cell(),
         Point::HelpUnlink(_, _) => first_cell(),
-        Point::CountDeletions(_) => Cell { thread: t, kind: Kind::Deletion },
+        Point::CountDeletions(_) => Cell {
+            thread: t,
+            kind: Kind::Deletion,
+        },
         Point::Mark(_, _) => first_cell(),
         Point::Unlink(_, _) => first_cell(),
         Point::Sizing(q) => size_cell(q),
@@ -315,15 +348,15 @@ pub fn stands_at(p: Point, k: Call) -> Point
 {
     match p {
         Point::Idle => entry(k),
-        Point::ReadSlot => Point::ReadSlot,
-        Point::Updating(q, u, a) => Point::Updating(q, u, a),
-        Point::CountInsertions => Point::CountInsertions,
-        Point::Link(c) => Point::Link(c),
-        Point::HelpUnlink(n, d) => Point::HelpUnlink(n, d),
-        Point::CountDeletions(n) => Point::CountDeletions(n),
-        Point::Mark(n, c) => Point::Mark(n, c),
-        Point::Unlink(n, d) => Point::Unlink(n, d),
-        Point::Sizing(q) => Point::Sizing(q),
+        Point::ReadSlot => p,
+        Point::Updating(_, _, _) => p,
+        Point::CountInsertions => p,
+        Point::Link(_) => p,
+        Point::HelpUnlink(_, _) => p,
+        Point::CountDeletions(_) => p,
+        Point::Mark(_, _) => p,
+        Point::Unlink(_, _) => p,
+        Point::Sizing(_) => p,
     }
 }
 

@@ -3,6 +3,7 @@
 // the crate `figures`.
 pub mod figure3;
 pub mod parts;
+
 use calculator::figure4::one_more;
 use calculator::figure4::sight;
 use calculator::figure4::window;
@@ -34,58 +35,90 @@ use terms::Target;
 use terms::ThreadId;
 ghost use mathlib.Core.Path.{_≡_};
 ghost use Prim.Native.Nat.{_<_};
-ghost use Rattle.figures.specs.Step.{noRecord, recordAt, localAt, contentAt, withRecord, withContent, accessed, stepOf, runOf};
+ghost use lib.ListN.{getD, set};
+ghost use lib.Dec.{ltb};
+ghost use Rattle.figures.specs.Step.{noRecord, noSlot, noLocal, accessed, stepOf, runOf};
 ghost use Rattle.machine.specs.Parts.{madeBy};
 
 fn no_record() -> Record
     ensures { λ r. ⌜ r ≡ noRecord ⌝ }
 {
     Record {
-        asked: Asked { thread: ThreadId(0), call: Call::Insert, key: 0 },
-        outcome: Outcome { answer: 0, first: 0, last: 0, own: 0 },
-        look: Look { read: 0, found: Content::Empty },
-        change: Change { target: Target(0), exchanged: 0, raised: 0, window: SnapshotId(0) },
+        asked: Asked {
+            thread: ThreadId(0),
+            call: Call::Insert,
+            key: 0,
+        },
+        outcome: Outcome {
+            answer: 0,
+            first: 0,
+            last: 0,
+            own: 0,
+        },
+        look: Look {
+            read: 0,
+            found: Content::Empty,
+        },
+        change: Change {
+            target: Target(0),
+            exchanged: 0,
+            raised: 0,
+            window: SnapshotId(0),
+        },
         snapshot: SnapshotId(0),
     }
 }
 
-fn record_at(m: Machine, o: OpId) -> Record
-    ensures { λ r. ⌜ r ≡ recordAt m o ⌝ }
+fn record_at(rs: [Record; 64], o: OpId) -> Record
+    ensures { λ r. ⌜ r ≡ getD rs (o .0) noRecord ⌝ }
 {
     let k = o.0 as usize;
-    if k < 64 { m.records[k] } else { no_record() }
+    if k < 64 { rs[k] } else { no_record() }
 }
 
-fn with_record(mut m: Machine, o: OpId, r: Record) -> Machine
-    ensures { λ n. ⌜ n ≡ withRecord o r m ⌝ }
+fn with_record(mut rs: [Record; 64], o: OpId, r: Record) -> [Record; 64]
+    ensures { λ s. ⌜ s ≡ set rs (o .0) r ⌝ }
 {
     let k = o.0 as usize;
     if k < 64 {
-        m.records[k] = r;
+        rs[k] = r;
     }
-    m
+    rs
 }
 
-fn content_at(m: Machine, key: u8) -> Content
-    ensures { λ r. ⌜ r ≡ contentAt m key ⌝ }
+fn content_at(ss: [Slot; 16], key: u8) -> Content
+    ensures { λ r. ⌜ r ≡ getD ss key noSlot .content ⌝ }
 {
     let k = key as usize;
     if k < 16 {
-        let s = m.slots[k];
+        let s = ss[k];
         s.content
     } else {
         Content::Empty
     }
 }
 
-fn with_content(mut m: Machine, key: u8, c: Content) -> Machine
-    ensures { λ n. ⌜ n ≡ withContent key c m ⌝ }
+fn with_content(mut ss: [Slot; 16], key: u8, c: Content) -> [Slot; 16]
+    ensures { λ s. ⌜ s ≡ set ss key (record { content = c }) ⌝ }
 {
     let k = key as usize;
     if k < 16 {
-        m.slots[k] = Slot { content: c };
+        ss[k] = Slot { content: c };
     }
-    m
+    ss
+}
+
+// Whether a thread has an operation left; one that is not there has none.
+fn is_busy(ls: [Local; 8], t: ThreadId) -> bool
+    ensures { λ r. ⌜ r ≡ ltb (getD ls (t .0) noLocal .op .0) (getD ls (t .0) noLocal .end .0) ⌝ }
+{
+    let k = t.0 as usize;
+    if k < 8 {
+        let l = ls[k];
+        l.op.0 < l.end.0
+    } else {
+        false
+    }
 }
 
 // The access that the thread makes, by where it stands; between operations it begins the next one.
@@ -102,31 +135,36 @@ fn move_of(t: ThreadId, l: Local, a: Asked, threads: u8, c: Calculator, held: Co
 }
 
 // A step of a thread with an operation left.
-fn accessed(m: Machine, t: ThreadId, l: Local) -> Machine
-    requires { ⌜ (l ≡ localAt m t) × (t .0 < 8) ⌝ }
+fn accessed(mut m: Machine, t: ThreadId) -> Machine
+    requires { ⌜ t .0 < 8 ⌝ }
     ensures { λ r. ⌜ r ≡ accessed m t ⌝ }
 {
+    let k = t.0 as usize;
+    let l = m.locals[k];
     let o = l.op;
     let seen = l.seen;
-    let r = record_at(m, o);
-    let asked = r.asked;
-    let held = content_at(m, asked.key);
+    let rs = m.records;
+    let r = record_at(rs, o);
+    let a = r.asked;
+    let ss = m.slots;
+    let held = content_at(ss, a.key);
     let c = m.calculator;
     let w = window(c);
     let step = one_more(m.clock);
-    let v = move_of(t, l, asked, m.threads, c, held);
+    let v = move_of(t, l, a, m.threads, c, held);
     let d = v.deed;
     let x = v.next;
-    let a = with_record(m, o, recorded(r, step, d, x));
+    let own = with_record(rs, o, recorded(r, step, d, x));
     let u = raised_op(d);
-    let b = with_record(a, u, raised_at(record_at(a, u), step, w));
-    let mut n = with_content(b, asked.key, held_after(held, d));
+    let all = with_record(own, u, raised_at(record_at(own, u), step, w));
+    m.records = all;
+    let hs = with_content(ss, a.key, held_after(held, d));
+    m.slots = hs;
     let e = calculated(c, d, step, seen);
-    n.calculator = e;
-    n.clock = step;
-    let k = t.0 as usize;
-    n.locals[k] = stood(l, d, x);
-    n
+    m.calculator = e;
+    m.clock = step;
+    m.locals[k] = stood(l, d, x);
+    m
 }
 
 // A step of a thread with no operation left.
@@ -141,12 +179,9 @@ fn idled(mut m: Machine) -> Machine
 pub fn step(m: Machine, t: ThreadId) -> Machine
     ensures { λ r. ⌜ r ≡ stepOf m t ⌝ }
 {
-    let k = t.0 as usize;
-    if k < 8 {
-        let l = m.locals[k];
-        let o = l.op;
-        let e = l.end;
-        if o.0 < e.0 { accessed(m, t, l) } else { idled(m) }
+    let ls = m.locals;
+    if is_busy(ls, t) {
+        accessed(m, t)
     } else {
         idled(m)
     }

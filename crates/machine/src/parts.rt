@@ -28,8 +28,8 @@ use terms::Target;
 ghost use mathlib.Core.Path.{_≡_};
 ghost use mathlib.Core.Bool.{cond};
 ghost use lib.Dec.{eqb};
-ghost use Rattle.figures.specs.Step.{withLook, withUsed, counted, answered, exchangedAt, raisedAt, standing, finished};
-ghost use Rattle.machine.specs.Parts.{usedBy, notedBy, recordedBy, seenBy, keptBy, stoodBy, heldBy, updatedBy, sizedBy, calculatedBy, raisedOp};
+ghost use Rattle.figures.specs.Step.{withLook, withUsed, counted, answered, exchangedAt, raisedAt};
+ghost use Rattle.machine.specs.Parts.{usedBy, notedBy, recordedBy, summedBy, seenBy, stoodBy, heldBy, updatedBy, sizedBy, calculatedBy, raisedOp};
 
 // An operation's first step, after one more.
 fn begun(first: u32, step: u32) -> u32
@@ -44,7 +44,12 @@ fn counted(r: Record, step: u32) -> Record
 {
     let mut s = r;
     let x = r.outcome;
-    let y = Outcome { answer: x.answer, first: begun(x.first, step), last: x.last, own: one_more(x.own) };
+    let y = Outcome {
+        answer: x.answer,
+        first: begun(x.first, step),
+        last: x.last,
+        own: one_more(x.own),
+    };
     s.outcome = y;
     s
 }
@@ -54,7 +59,12 @@ fn answered(r: Record, a: u32, step: u32) -> Record
 {
     let mut s = r;
     let x = r.outcome;
-    let y = Outcome { answer: a, first: x.first, last: step, own: x.own };
+    let y = Outcome {
+        answer: a,
+        first: x.first,
+        last: step,
+        own: x.own,
+    };
     s.outcome = y;
     s
 }
@@ -63,7 +73,10 @@ fn looked(r: Record, step: u32, c: Content) -> Record
     ensures { λ s. ⌜ s ≡ withLook (record { read = step; found = c }) r ⌝ }
 {
     let mut s = r;
-    let x = Look { read: step, found: c };
+    let x = Look {
+        read: step,
+        found: c,
+    };
     s.look = x;
     s
 }
@@ -139,72 +152,57 @@ pub fn recorded(r: Record, step: u32, d: Deed, x: Next) -> Record
     }
 }
 
-fn with_seen(l: Local, b: [Counts; 8]) -> Local
-    ensures { λ s. ⌜ s ≡ Rattle.figures.specs.Step.withSeen b l ⌝ }
-{
-    let mut s = l;
-    s.seen = b;
-    s
-}
-
 // The values that a thread keeps for its sum: none when it begins to sum, and one more with each cell.
-fn seen_by(l: Local, d: SizeDeed) -> Local
-    ensures { λ s. ⌜ s ≡ seenBy d l ⌝ }
+fn summed(seen: [Counts; 8], d: SizeDeed) -> [Counts; 8]
+    ensures { λ s. ⌜ s ≡ summedBy d seen ⌝ }
 {
     match d {
-        SizeDeed::Looks => l,
-        SizeDeed::Announces => l,
-        SizeDeed::Collects(_, _, _) => l,
-        SizeDeed::Lowers(_) => with_seen(l, block_of(0)),
-        SizeDeed::Keeps(j, v) => {
-            let b = l.seen;
-            with_seen(l, set_count(b, j, v))
-        }
-        SizeDeed::Fixes(_, _) => l,
-        SizeDeed::Shares(_) => l,
+        SizeDeed::Looks => seen,
+        SizeDeed::Announces => seen,
+        SizeDeed::Collects(_, _, _) => seen,
+        SizeDeed::Lowers(_) => block_of(0),
+        SizeDeed::Keeps(j, v) => set_count(seen, j, v),
+        SizeDeed::Fixes(_, _) => seen,
+        SizeDeed::Shares(_) => seen,
     }
 }
 
-fn kept(l: Local, d: Deed) -> Local
-    ensures { λ s. ⌜ s ≡ keptBy d l ⌝ }
+fn seen_after(seen: [Counts; 8], d: Deed) -> [Counts; 8]
+    ensures { λ s. ⌜ s ≡ seenBy d seen ⌝ }
 {
     match d {
-        Deed::Rests => l,
-        Deed::Finds(_) => l,
-        Deed::Links(_) => l,
-        Deed::Marks(_, _) => l,
-        Deed::Unlinks => l,
-        Deed::Updates(_, _) => l,
-        Deed::Sizes(x) => seen_by(l, x),
+        Deed::Rests => seen,
+        Deed::Finds(_) => seen,
+        Deed::Links(_) => seen,
+        Deed::Marks(_, _) => seen,
+        Deed::Unlinks => seen,
+        Deed::Updates(_, _) => seen,
+        Deed::Sizes(x) => summed(seen, x),
     }
 }
 
-fn standing(l: Local, p: Point) -> Local
-    ensures { λ s. ⌜ s ≡ standing p l ⌝ }
+fn local(p: Point, o: OpId, e: OpId, seen: [Counts; 8]) -> Local
+    ensures { λ s. ⌜ s ≡ record { point = p; op = o; end = e; seen = seen } ⌝ }
 {
-    let o = l.op;
-    let e = l.end;
-    let b = l.seen;
-    Local { point: p, op: o, end: e, seen: b }
-}
-
-fn finished(l: Local) -> Local
-    ensures { λ s. ⌜ s ≡ finished l ⌝ }
-{
-    let o = l.op;
-    let e = l.end;
-    let b = l.seen;
-    Local { point: Point::Idle, op: OpId(one_more_byte(o.0)), end: e, seen: b }
+    Local {
+        point: p,
+        op: o,
+        end: e,
+        seen: seen,
+    }
 }
 
 // The thread after the step.
 pub fn stood(l: Local, d: Deed, x: Next) -> Local
     ensures { λ s. ⌜ s ≡ stoodBy d x l ⌝ }
 {
-    let s = kept(l, d);
+    let o = l.op;
+    let e = l.end;
+    let b = l.seen;
+    let s = seen_after(b, d);
     match x {
-        Next::To(p) => standing(s, p),
-        Next::Returns(_) => finished(s),
+        Next::To(p) => local(p, o, e, s),
+        Next::Returns(_) => local(Point::Idle, OpId(one_more_byte(o.0)), e, s),
     }
 }
 

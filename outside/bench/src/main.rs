@@ -1,6 +1,7 @@
 //! `bench [--rounds N] [--dirty]`: the time of the largest runs and of refusals, ours and the plain implementation's, and the stack
-//! that a run touches. With --dirty the buffers keep what the call before left in them.
+//! that a run touches. Plays are measured one by one, refusals by 64. With --dirty the buffers keep what the call before left in them.
 
+mod clock;
 mod stack;
 
 use compare::generate::{laid_out, run_of, MIXES};
@@ -8,7 +9,6 @@ use compare::random::Random;
 use compare::side::{Ours, Plain, Side};
 use std::hint::black_box;
 use std::process::ExitCode;
-use std::time::Instant;
 
 struct Asked {
     rounds: usize,
@@ -37,15 +37,17 @@ struct Buffers {
     log: [u32; 128],
 }
 
-/// Nanoseconds of one call on the file.
-fn time(side: &dyn Side, file: &[u8], buffers: &mut Buffers, cleared: bool) -> f64 {
+/// Nanoseconds of processor time for one call on the file, of so many measured together.
+fn time(side: &dyn Side, file: &[u8], calls: usize, buffers: &mut Buffers, cleared: bool) -> f64 {
     if cleared {
         buffers.results.fill(0);
         buffers.log.fill(0);
     }
-    let begun = Instant::now();
-    black_box(side.run(black_box(file), &mut buffers.results, &mut buffers.log));
-    begun.elapsed().as_nanos() as f64
+    let begun = clock::nanoseconds();
+    for _ in 0..calls {
+        black_box(side.run(black_box(file), &mut buffers.results, &mut buffers.log));
+    }
+    (clock::nanoseconds() - begun) as f64 / calls as f64
 }
 
 fn median(mut times: Vec<f64>) -> f64 {
@@ -53,13 +55,14 @@ fn median(mut times: Vec<f64>) -> f64 {
     times[times.len() / 2]
 }
 
-/// The medians of calls in turn over the files, ours and the plain implementation's.
-fn medians(asked: &Asked, files: &[Vec<u8>]) -> (f64, f64) {
+/// The medians of measurements in turn over the files, ours and the plain implementation's.
+fn medians(asked: &Asked, files: &[Vec<u8>], calls: usize) -> (f64, f64) {
     let mut buffers = Buffers { results: [0; 256], log: [0; 128] };
     let (mut ours, mut plain) = (Vec::new(), Vec::new());
     for round in 0..asked.rounds + 10 {
         let file = &files[round % files.len()];
-        let pair = (time(&Ours, file, &mut buffers, asked.cleared), time(&Plain, file, &mut buffers, asked.cleared));
+        let mut measured = |side| time(side, file, calls, &mut buffers, asked.cleared);
+        let pair = (measured(&Ours as &dyn Side), measured(&Plain));
         // the first rounds warm caches
         if round >= 10 {
             ours.push(pair.0);
@@ -97,7 +100,7 @@ fn largest_runs(asked: &Asked) {
             let files = largest(mix, keys);
             let steps: usize = files.iter().map(|f| busy(f)).sum::<usize>() / files.len();
             let note = format!("{steps} steps not idle");
-            print_row(&format!("play: {name}, keys {keys}"), &note, medians(asked, &files));
+            print_row(&format!("play: {name}, keys {keys}"), &note, medians(asked, &files, 1));
         }
     }
 }
@@ -118,7 +121,7 @@ fn refusals(asked: &Asked) {
     ];
     for (name, files) in rows {
         let number = plain::read(&files[0]).err().map_or(0, |r| r.number);
-        print_row(name, &format!("number {number}"), medians(asked, &files));
+        print_row(name, &format!("number {number}"), medians(asked, &files, 64));
     }
 }
 
@@ -133,8 +136,8 @@ fn main() -> ExitCode {
     if cfg!(debug_assertions) {
         println!("NOT BUILT FOR RELEASE: these times say nothing");
     }
-    println!("buffers cleared before each call, outside the time: {}", if asked.cleared { "yes" } else { "no" });
-    println!("{:<38}{:>12}{:>12}{:>8}", format!("median of {} calls", asked.rounds), "ours us", "plain us", "ratio");
+    println!("buffers cleared before each measurement, outside the time: {}", if asked.cleared { "yes" } else { "no" });
+    println!("{:<38}{:>12}{:>12}{:>8}", format!("median of {} measurements", asked.rounds), "ours us", "plain us", "ratio");
     largest_runs(&asked);
     refusals(&asked);
     let file = &largest(MIXES[0], 16)[0];

@@ -13,7 +13,8 @@ pub struct Met {
     pub read: u32,
     pub written: u32,
     pub played: u32,
-    pub lent: u32,
+    /// none where no table is lent
+    pub lent: Option<u32>,
 }
 
 type Verdict<A> = Result<A, String>;
@@ -52,7 +53,7 @@ pub fn compare(ours: &dyn Side, plain: &dyn Side, case: &Case) -> Verdict<Met> {
     if read.number == 0 {
         round_trip(ours, &case.file, &read)?;
     }
-    Ok(Met { read: read.number, written, played: played.number, lent: lent.number })
+    Ok(Met { read: read.number, written, played: played.number, lent: lent.map(|a| a.number) })
 }
 
 /// As much room as needed, more, or a little less.
@@ -94,17 +95,19 @@ fn record(i: usize) -> Snapshot {
     Snapshot { cells: std::array::from_fn(|t| [cell(t, 0), cell(t, 1)]), collecting: i % 2 == 0, size: pattern(100 * i + 50) }
 }
 
-fn compare_lent(ours: &dyn Side, plain: &dyn Side, file: &[u8], read: &Reading, random: &mut Random) -> Verdict<Playing> {
+fn compare_lent(ours: &dyn Side, plain: &dyn Side, file: &[u8], read: &Reading, random: &mut Random) -> Verdict<Option<Playing>> {
     let sizes = file[read.operations_at..read.schedule_at].iter().filter(|b| **b == 192).count();
     let records = room(random, sizes + 1);
     let (nr, nl) = (4 * read.operations + random.below(2), 2 * read.operations + random.below(2));
     let (mut results, mut log) = (patterned(nr), patterned(nl));
     let mut table: Vec<Snapshot> = (0..records).map(record).collect();
-    let answer = ours.run_lent(file, &mut results, &mut log, &mut table);
+    let Some(answer) = ours.run_lent(file, &mut results, &mut log, &mut table) else {
+        return Ok(None);
+    };
     let (mut plain_results, mut plain_log) = (patterned(nr), patterned(nl));
     let mut plain_table: Vec<Snapshot> = (0..records).map(record).collect();
     let plain_answer = plain.run_lent(file, &mut plain_results, &mut plain_log, &mut plain_table);
-    same("run with a lent table", answer, plain_answer)?;
+    same("run with a lent table", Some(answer), plain_answer)?;
     same("results with a lent table", &results, &plain_results)?;
     same("log with a lent table", &log, &plain_log)?;
     same("lent table", &table, &plain_table)?;
@@ -112,7 +115,7 @@ fn compare_lent(ours: &dyn Side, plain: &dyn Side, file: &[u8], read: &Reading, 
     let announced = if answer.number == 0 { answer.snapshots + 1 } else { 0 };
     match (announced..records).find(|i| table[*i] != record(*i)) {
         Some(i) => Err(format!("lent table: record {i} was touched, {announced} are announced")),
-        None => Ok(answer),
+        None => Ok(Some(answer)),
     }
 }
 

@@ -46,7 +46,8 @@ pub trait Side: Sync {
     fn read(&self, file: &[u8]) -> Reading;
     fn write(&self, lists: &Lists, out: &mut [u8]) -> Writing;
     fn run(&self, file: &[u8], results: &mut [u32], log: &mut [u32]) -> Playing;
-    fn run_lent(&self, file: &[u8], results: &mut [u32], log: &mut [u32], table: &mut [Snapshot]) -> Playing;
+    /// None from an implementation that lends no table.
+    fn run_lent(&self, file: &[u8], results: &mut [u32], log: &mut [u32], table: &mut [Snapshot]) -> Option<Playing>;
 }
 
 /// The proved library, through its safe face.
@@ -91,8 +92,8 @@ impl Side for Plain {
         played(plain::run(file, results, log))
     }
 
-    fn run_lent(&self, file: &[u8], results: &mut [u32], log: &mut [u32], table: &mut [Snapshot]) -> Playing {
-        played(plain::run_lent(file, results, log, table))
+    fn run_lent(&self, file: &[u8], results: &mut [u32], log: &mut [u32], table: &mut [Snapshot]) -> Option<Playing> {
+        Some(played(plain::run_lent(file, results, log, table)))
     }
 }
 
@@ -103,11 +104,13 @@ fn ours_played(answer: Result<pszenorad::Totals, pszenorad::Refusal>) -> Playing
     }
 }
 
+#[cfg(feature = "lent")]
 fn lent(record: &Snapshot) -> pszenorad::Snapshot {
     let cells = record.cells.map(|[insertions, deletions]| pszenorad::Cells { insertions, deletions });
     pszenorad::Snapshot { cells, collecting: record.collecting, size: record.size }
 }
 
+#[cfg(feature = "lent")]
 fn handed_back(record: &pszenorad::Snapshot) -> Snapshot {
     let cells = record.cells.map(|c| [c.insertions, c.deletions]);
     Snapshot { cells, collecting: record.collecting, size: record.size }
@@ -144,10 +147,16 @@ impl Side for Ours {
         ours_played(pszenorad::run(file, results, log))
     }
 
-    fn run_lent(&self, file: &[u8], results: &mut [u32], log: &mut [u32], table: &mut [Snapshot]) -> Playing {
+    #[cfg(feature = "lent")]
+    fn run_lent(&self, file: &[u8], results: &mut [u32], log: &mut [u32], table: &mut [Snapshot]) -> Option<Playing> {
         let mut room: Vec<pszenorad::Snapshot> = table.iter().map(lent).collect();
         let answer = ours_played(pszenorad::run_lent(file, results, log, &mut room));
         table.iter_mut().zip(&room).for_each(|(record, back)| *record = handed_back(back));
-        answer
+        Some(answer)
+    }
+
+    #[cfg(not(feature = "lent"))]
+    fn run_lent(&self, _: &[u8], _: &mut [u32], _: &mut [u32], _: &mut [Snapshot]) -> Option<Playing> {
+        None
     }
 }

@@ -72,14 +72,14 @@ impl Side for Faulty {
         answer
     }
 
-    fn run_lent(&self, file: &[u8], results: &mut [u32], log: &mut [u32], table: &mut [Snapshot]) -> Playing {
-        let answer = Plain.run_lent(file, results, log, table);
+    fn run_lent(&self, file: &[u8], results: &mut [u32], log: &mut [u32], table: &mut [Snapshot]) -> Option<Playing> {
+        let answer = Plain.run_lent(file, results, log, table)?;
         match self.0 {
             Fault::TableTail if answer.number == 0 => drop(table.get_mut(answer.snapshots + 1).map(|r| r.size = 0)),
             Fault::TableCell if answer.snapshots > 0 => table[1].cells[7][1] ^= 1,
             _ => (),
         }
-        answer
+        Some(answer)
     }
 }
 

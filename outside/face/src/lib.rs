@@ -16,6 +16,7 @@
 mod boundary;
 mod refusal;
 
+#[cfg(feature = "lent")]
 pub use boundary::{Cells, Snapshot};
 pub use refusal::Refusal;
 
@@ -115,6 +116,7 @@ pub fn run(file: &[u8], results: &mut [u32], log: &mut [u32]) -> Result<Totals, 
     totals(boundary::run(file, results, log))
 }
 
+#[cfg(feature = "lent")]
 /// The same with the table of snapshots lent, which needs one record more than the file has size operations. Afterwards it holds
 /// the announced ones; the others stay.
 pub fn run_lent(file: &[u8], results: &mut [u32], log: &mut [u32], table: &mut [Snapshot]) -> Result<Totals, Refusal> {

@@ -18,7 +18,6 @@ int main(void) {
     uint8_t out[40];
     uint16_t counts[1] = {2};
     uint32_t results[8], log[4];
-    pszenorad_snapshot table[1];
     pszenorad_read_answer r = pszenorad_read(file, sizeof file);
     EXPECT(r.number == 0 && r.threads == 1 && r.keys == 1 && r.counts[0] == 2 && r.counts[7] == 0);
     EXPECT(r.operations_at == 10 && r.operations == 2 && r.schedule_at == 12 && r.steps == 11);
@@ -29,8 +28,11 @@ int main(void) {
     pszenorad_run_answer a = pszenorad_run(file, sizeof file, results, 8, log, 4);
     EXPECT(a.number == 0 && a.entries == 2 && a.idle == 0 && a.snapshots == 0);
     EXPECT(results[0] == 1 && results[4] == 0 && log[1] == 5 && log[3] == 8);
+#ifdef PSZENORAD_LENT
+    pszenorad_snapshot table[1];
     a = pszenorad_run_lent(file, sizeof file, results, 8, log, 4, table, 1);
     EXPECT(a.number == 0 && table[0].size == PSZENORAD_INVALID && table[0].cells[7].deletions == PSZENORAD_INVALID);
+#endif
     EXPECT(pszenorad_run(file, sizeof file, results, 7, log, 4).number == 11);
     return 0;
 }

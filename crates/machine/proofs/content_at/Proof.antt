@@ -1,4 +1,3 @@
-use lib.ListN.{length-map}
 use Rattle.calculator.proofs.Beyond.{getD-beyond}
 use borrow.Author.Needs.{needs}
 use Rattle.machine.proofs.content_at.Statement.{statement}
@@ -11,4 +10,4 @@ content-at-spec =
     (λ c. search needs)
     (λ c. search needs)
     (λ c. search needs)
-    (λ c. simp (getD-beyond (c .before .args .t1 .slots) (c .before .args .key) 16 (simp length-map at (c .before .good .0 .1 .1 .1 .1 .1 .1 .1 .0 .1 .0 .1)) (c .if1 .left))))
+    (λ c. simp (getD-beyond (c .before .args .t1) (c .before .args .key) 16 (c .before .good .0 .1 .0 .1) (c .if1 .left))))

@@ -1,4 +1,3 @@
-use lib.ListN.{length-map}
 use Rattle.calculator.proofs.Beyond.{getD-beyond}
 use borrow.Author.Needs.{needs}
 use Rattle.machine.proofs.record_at.Statement.{statement}
@@ -13,4 +12,4 @@ record-at-spec =
     (λ c. search needs)
     (λ c κs. tt)
     (λ c. search needs)
-    (λ c. simp (c .no-record .ensures, getD-beyond (c .before .before .before .args .t1 .records) (c .before .before .before .args .o .0) 64 (simp length-map at (c .before .before .before .good .0 .1 .1 .1 .1 .1 .1 .1 .1 .1 .0 .1 .0 .1)) (c .before .if1 .left))))
+    (λ c. simp (c .no-record .ensures, getD-beyond (c .before .before .before .args .t1) (c .before .before .before .args .o .0) 64 (c .before .before .before .good .0 .1 .0 .1) (c .before .if1 .left))))

@@ -1,9 +1,7 @@
-use mathlib.Core.Path.{refl}
+use mathlib.Core.Path.{sym, _∙_}
 use lib.ListN.{length-map}
-use borrow.Author.Tests.{le-ltb, lt-ltb}
-use borrow.Author.Needs.{needs}
-use Rattle.calculator.proofs.Beyond.{getD-beyond}
 use Rattle.figures.specs.Step.{stepOf}
+use Rattle.machine.proofs.Together.{busy-inside}
 use Rattle.machine.proofs.step.Statement.{statement}
 use Rattle.machine.proofs.step.Tie as tie
 
@@ -12,12 +10,8 @@ unfolding stepOf
 step-spec =
     tie.close
     (tie.spec
-    (λ c. search needs)
-    (λ c. search needs)
-    (λ c. search needs)
-    (λ c κs. (refl, c .before .before .before .before .before .before .if1 .taken))
     (λ c κs. tt)
+    (λ c κs. let s = c .before .before .before in busy-inside (s .args .m .locals) (s .args .t .0) (simp length-map at (s .good .0 .1 .1 .1 .1 .1 .1 .1 .1 .0 .1 .0 .1)) (sym (c .before .is-busy .ensures) ∙ c .if1 .taken))
     (λ c κs. tt)
-    (λ c. simp (c .accessed .ensures, lt-ltb _ _ (c .before .if2 .taken)))
-    (λ c. simp (c .idled .ensures, le-ltb _ _ (c .before .if2 .left)))
-    (λ c. simp (c .idled2 .ensures, getD-beyond (c .before .before .before .args .t1 .locals) (c .before .before .before .args .t .0) 8 (simp length-map at (c .before .before .before .good .0 .1 .1 .1 .1 .1 .1 .1 .1 .0 .1 .0 .1)) (c .before .if1 .left))))
+    (λ c. simp (c .accessed .ensures, sym (c .before .before .is-busy .ensures) ∙ c .before .if1 .taken))
+    (λ c. simp (c .idled .ensures, sym (c .before .before .is-busy .ensures) ∙ c .before .if1 .left)))

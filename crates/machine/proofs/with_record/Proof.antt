@@ -1,4 +1,3 @@
-use lib.ListN.{length-map}
 use Rattle.calculator.proofs.Beyond.{set-beyond}
 use borrow.Author.Needs.{needs}
 use Rattle.machine.proofs.with_record.Statement.{statement}
@@ -12,4 +11,4 @@ with-record-spec =
     (λ c. search needs)
     (λ c. search needs)
     (λ c. search needs)
-    (λ c. simp (set-beyond (c .before .before .args .t1 .records) (c .before .before .args .o .0) 64 (simp length-map at (c .before .before .good .0 .1 .1 .1 .1 .1 .1 .1 .1 .1 .0 .1 .0 .1)) (c .if1 .left))))
+    (λ c. simp (set-beyond (c .before .before .args .t1) (c .before .before .args .o .0) 64 (c .before .before .good .0 .1 .0 .1) (c .if1 .left))))

@@ -7,5 +7,7 @@ help-unlink-spec =
     (tie.spec
     (λ c κs. tt)
     (λ c κs. tt)
-    (λ c. simp (simp (c .before .is-marked .ensures) at (c .if1 .taken), c .before .is-marked .ensures))
-    (λ c. simp (c .goes-to .ensures, simp (c .before .before .is-marked .ensures) at (c .before .if1 .left), c .before .before .is-marked .ensures)))
+    (λ c κs. tt)
+    (λ c κs. tt)
+    (λ c. simp (c .moves .ensures, c .before .to .ensures, simp (c .before .before .before .is-marked .ensures) at (c .before .before .if1 .taken)))
+    (λ c. simp (c .goes-to .ensures, simp (c .before .before .is-marked .ensures) at (c .before .if1 .left))))

@@ -6,5 +6,7 @@ unlink-spec =
     tie.close
     (tie.spec
     (λ c κs. tt)
-    (λ c. simp (simp (c .before .is-marked .ensures) at (c .if1 .taken), c .before .is-marked .ensures))
-    (λ c. simp (simp (c .before .is-marked .ensures) at (c .if1 .left), c .before .is-marked .ensures)))
+    (λ c κs. tt)
+    (λ c κs. tt)
+    (λ c. simp (c .moves .ensures, simp (c .before .before .is-marked .ensures) at (c .before .if1 .taken)))
+    (λ c. simp (c .moves2 .ensures, simp (c .before .before .is-marked .ensures) at (c .before .if1 .left))))

@@ -7,4 +7,5 @@ updating-spec =
     (tie.spec
     (λ c κs. tt)
     (λ c κs. tt)
-    (λ c. simp (c .update-next .ensures, c .before .update .ensures)))
+    (λ c κs. tt)
+    (λ c. simp (c .moves .ensures, c .before .update-next .ensures, c .before .before .update .ensures)))

@@ -11,5 +11,6 @@ stood-spec =
     (λ c κs. tt)
     (λ c. search needs)
     (λ c κs. tt)
-    (λ c. simp (c .standing .ensures, c .before .before .x .given .1, c .before .before .before .before .kept .ensures))
-    (λ c. simp (c .finished .ensures, c .before .enum-told .given .1, c .before .before .before .kept .ensures)))
+    (λ c κs. tt)
+    (λ c. simp (c .local .ensures, c .before .before .x .given .1, c .before .before .before .before .seen-after .ensures))
+    (λ c. simp (c .local2 .ensures, c .before .one-more-byte .ensures, c .before .before .enum-told .given .1, c .before .before .before .before .seen-after .ensures)))

@@ -1,9 +1,9 @@
 use borrow.Author.Needs.{needs}
-use Rattle.machine.proofs.parts.kept.Statement.{statement}
-use Rattle.machine.proofs.parts.kept.Tie as tie
+use Rattle.machine.proofs.parts.seen_after.Statement.{statement}
+use Rattle.machine.proofs.parts.seen_after.Tie as tie
 
-pub kept-spec : {M : Type 1} → statement M
-kept-spec =
+pub seen-after-spec : {M : Type 1} → statement M
+seen-after-spec =
     tie.close
     (tie.spec
     (λ c. search needs)
@@ -20,4 +20,4 @@ kept-spec =
     (λ c. search needs)
     (λ c. search needs)
     (λ c. search needs)
-    (λ c. simp (c .seen-by .ensures, c .before .before .d .given .1)))
+    (λ c. simp (c .summed .ensures, c .before .before .d .given .1)))

@@ -1,0 +1,5 @@
+pub mod Worked
+pub mod Accepted
+pub mod Results
+pub mod Decided
+pub mod Unique
