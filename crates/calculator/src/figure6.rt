@@ -161,9 +161,9 @@ pub fn collect_set(threads: u8, n: SnapshotId, j: Cell, v: u32, s: Sight) -> Siz
 fn sum_next(threads: u8, n: SnapshotId, j: Cell) -> SizePoint
     ensures { λ r. ⌜ r ≡ eachCell threads j (SumCell n) (FixSize n) ⌝ }
 {
-    let i = next_cell(j);
-    if i.thread.0 < threads {
-        SizePoint::SumCell(n, i)
+    let after = next_cell(j);
+    if after.thread.0 < threads {
+        SizePoint::SumCell(n, after)
     } else {
         SizePoint::FixSize(n)
     }

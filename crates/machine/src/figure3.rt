@@ -29,6 +29,7 @@ use terms::SnapshotId;
 use terms::Target;
 use terms::ThreadId;
 ghost use mathlib.Core.Path.{_≡_};
+ghost use Rattle.figures.specs.declared.After.the-variants.{ToMark, ToUnlink};
 ghost use Rattle.figures.specs.declared.Next.the-variants.{To};
 ghost use Rattle.figures.specs.Figure3.{insertion, deletion, nodeOf, isLive, isMarked, goesTo, containsFound, insertFound, deleteFound, found, readSlot, countInsertions, link, helpUnlink, countDeletions, mark, unlink, afterwards, updateNext, updating, sizeNext, sizing, entry, cellOf, looksAtCell, looksAtSnapshot};
 ghost use Rattle.figures.specs.Step.{standsAt, accessOf};
@@ -131,13 +132,24 @@ fn insert_found(c: Content) -> Next
     }
 }
 
+// Lines 33 and 34: the insertion is helped before the node may be marked, so that no size counts a deletion without it.
+fn help_then_mark(n: Node) -> Next
+    ensures { λ r. ⌜ r ≡ Rattle.figures.specs.Figure3.update (insertion n) (ToMark n) ⌝ }
+{
+    let u = Update {
+        kind: Kind::Insertion,
+        node: n,
+    };
+    update_then(u, After::ToMark(n))
+}
+
 // Delete, lines 29 to 34.
 fn delete_found(c: Content) -> Next
     ensures { λ r. ⌜ r ≡ deleteFound c ⌝ }
 {
     match c {
         Content::Empty => Next::Returns(0),
-        Content::Live(n) => update_then(insertion(n), After::ToMark(n)),
+        Content::Live(n) => help_then_mark(n),
         Content::Marked(_, d) => update_then(deletion(d), After::Answer(0)),
     }
 }
@@ -202,13 +214,24 @@ fn count_deletions(n: Node, s: Sight) -> Move
     goes_to(Point::Mark(n, Target(one_more(s.count))))
 }
 
+// Lines 37 and 38: the deletion is raised before the node may be unlinked, so that whoever finds it can help.
+fn raise_then_unlink(n: Node, d: Node) -> Next
+    ensures { λ r. ⌜ r ≡ Rattle.figures.specs.Figure3.update (deletion d) (ToUnlink n d) ⌝ }
+{
+    let u = Update {
+        kind: Kind::Deletion,
+        node: d,
+    };
+    update_then(u, After::ToUnlink(n, d))
+}
+
 // Line 36: exchange that live node for the marked one. On failure, read again. On success, update.
 fn mark(t: ThreadId, o: OpId, n: Node, c: Target, held: Content) -> Move
     ensures { λ r. ⌜ r ≡ mark t o n c held ⌝ }
 {
     let d = node_of(t, c, o);
     if is_live(n, held) {
-        let x = update_then(deletion(d), After::ToUnlink(n, d));
+        let x = raise_then_unlink(n, d);
         moves(x, Deed::Marks(n, d))
     } else {
         goes_to(Point::ReadSlot)

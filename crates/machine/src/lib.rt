@@ -1,8 +1,8 @@
 // The code of figure 3, the set over the calculator: one function per access, named after it (figure3.rt), the change that an
 // access makes, part by part (parts.rt), and here a step of a thread and a whole schedule. What each must yield is defined in
 // the crate `figures`.
-pub mod figure3;
-pub mod parts;
+mod figure3;
+mod parts;
 
 use calculator::figure4::one_more;
 use calculator::figure4::sight;
@@ -163,7 +163,8 @@ fn accessed(mut m: Machine, t: ThreadId) -> Machine
     let e = calculated(c, d, step, seen);
     m.calculator = e;
     m.clock = step;
-    m.locals[k] = stood(l, d, x);
+    let s = stood(l, d, x);
+    m.locals[k] = s;
     m
 }
 

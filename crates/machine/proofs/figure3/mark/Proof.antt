@@ -10,6 +10,5 @@ mark-spec =
     (λ c κs. tt)
     (λ c κs. tt)
     (λ c κs. tt)
-    (λ c κs. tt)
-    (λ c. simp (c .moves .ensures, c .before .update-then .ensures, c .before .before .deletion .ensures, simp (c .before .before .before .before .is-live .ensures) at (c .before .before .before .if1 .taken), c .before .before .before .before .before .node-of .ensures))
+    (λ c. simp (c .moves .ensures, c .before .raise-then-unlink .ensures, simp (c .before .before .before .is-live .ensures) at (c .before .before .if1 .taken), c .before .before .before .before .node-of .ensures))
     (λ c. simp (c .goes-to .ensures, simp (c .before .before .is-live .ensures) at (c .before .if1 .left))))

@@ -1,0 +1,162 @@
+-- Of each public function: two answers that meet its promise are equal.
+use Rattle.calculator.proofs.Once.{Once, once}
+use Rattle.calculator.proofs.figure4.one_more.Reads as one-more
+use Rattle.calculator.proofs.figure4.one_more_byte.Reads as one-more-byte
+use Rattle.calculator.proofs.figure4.count_of.Reads as count-of
+use Rattle.calculator.proofs.figure4.count_at.Reads as count-at
+use Rattle.calculator.proofs.figure4.set_count.Reads as set-count
+use Rattle.calculator.proofs.figure4.block_of.Reads as block-of
+use Rattle.calculator.proofs.figure4.sight.Reads as sight
+use Rattle.calculator.proofs.figure4.window.Reads as window
+use Rattle.calculator.proofs.figure4.new_id.Reads as new-id
+use Rattle.calculator.proofs.figure4.raised.Reads as raised
+use Rattle.calculator.proofs.figure4.written.Reads as written
+use Rattle.calculator.proofs.figure4.announced.Reads as announced
+use Rattle.calculator.proofs.figure4.lowered.Reads as lowered
+use Rattle.calculator.proofs.figure4.fixed.Reads as fixed
+use Rattle.calculator.proofs.figure5.read_count.Reads as read-count
+use Rattle.calculator.proofs.figure5.raise_count.Reads as raise-count
+use Rattle.calculator.proofs.figure5.read_current.Reads as read-current
+use Rattle.calculator.proofs.figure5.read_flag.Reads as read-flag
+use Rattle.calculator.proofs.figure5.read_again.Reads as read-again
+use Rattle.calculator.proofs.figure5.update.Reads as update
+use Rattle.calculator.proofs.figure5.find_current.Reads as find-current
+use Rattle.calculator.proofs.figure5.find_flag.Reads as find-flag
+use Rattle.calculator.proofs.figure5.announce.Reads as announce
+use Rattle.calculator.proofs.figure5.collect_count.Reads as collect-count
+use Rattle.calculator.proofs.figure5.lower_flag.Reads as lower-flag
+use Rattle.calculator.proofs.figure5.size.Reads as size
+use Rattle.calculator.proofs.figure5.update_looks_at.Reads as update-looks-at
+use Rattle.calculator.proofs.figure5.size_looks_at.Reads as size-looks-at
+use Rattle.calculator.proofs.figure5.size_cell.Reads as size-cell
+use Rattle.calculator.proofs.figure6.on_to.Reads as on-to
+use Rattle.calculator.proofs.figure6.done.Reads as done
+use Rattle.calculator.proofs.figure6.read_cell.Reads as read-cell
+use Rattle.calculator.proofs.figure6.forward.Reads as forward
+use Rattle.calculator.proofs.figure6.first_cell.Reads as first-cell
+use Rattle.calculator.proofs.figure6.goes.Reads as goes
+use Rattle.calculator.proofs.figure6.go_to.Reads as go-to
+use Rattle.calculator.proofs.figure6.collect_cell.Reads as collect-cell
+use Rattle.calculator.proofs.figure6.collect_set.Reads as collect-set
+use Rattle.calculator.proofs.figure6.sum_cell.Reads as sum-cell
+use Rattle.calculator.proofs.figure6.fix_size.Reads as fix-size
+
+pub one-more-once : Once (one-more.Post tt)
+one-more-once a r s e p q = once p q
+
+pub one-more-byte-once : Once (one-more-byte.Post tt)
+one-more-byte-once a r s e p q = once p q
+
+pub count-of-once : Once (count-of.Post tt)
+count-of-once a r s e p q = once p q
+
+pub count-at-once : Once (count-at.Post tt)
+count-at-once a r s e p q = once p q
+
+pub set-count-once : Once (set-count.Post tt)
+set-count-once a r s e p q = once p q
+
+pub block-of-once : Once (block-of.Post tt)
+block-of-once a r s e p q = once p q
+
+pub sight-once : Once (sight.Post tt)
+sight-once a r s e p q = once p q
+
+pub window-once : Once (window.Post tt)
+window-once a r s e p q = once p q
+
+pub new-id-once : Once (new-id.Post tt)
+new-id-once a r s e p q = once p q
+
+pub raised-once : Once (raised.Post tt)
+raised-once a r s e p q = once p q
+
+pub written-once : Once (written.Post tt)
+written-once a r s e p q = once p q
+
+pub announced-once : Once (announced.Post tt)
+announced-once a r s e p q = once p q
+
+pub lowered-once : Once (lowered.Post tt)
+lowered-once a r s e p q = once p q
+
+pub fixed-once : Once (fixed.Post tt)
+fixed-once a r s e p q = once p q
+
+pub read-count-once : Once (read-count.Post tt)
+read-count-once a r s e p q = once p q
+
+pub raise-count-once : Once (raise-count.Post tt)
+raise-count-once a r s e p q = once p q
+
+pub read-current-once : Once (read-current.Post tt)
+read-current-once a r s e p q = once p q
+
+pub read-flag-once : Once (read-flag.Post tt)
+read-flag-once a r s e p q = once p q
+
+pub read-again-once : Once (read-again.Post tt)
+read-again-once a r s e p q = once p q
+
+pub update-once : Once (update.Post tt)
+update-once a r s e p q = once p q
+
+pub find-current-once : Once (find-current.Post tt)
+find-current-once a r s e p q = once p q
+
+pub find-flag-once : Once (find-flag.Post tt)
+find-flag-once a r s e p q = once p q
+
+pub announce-once : Once (announce.Post tt)
+announce-once a r s e p q = once p q
+
+pub collect-count-once : Once (collect-count.Post tt)
+collect-count-once a r s e p q = once p q
+
+pub lower-flag-once : Once (lower-flag.Post tt)
+lower-flag-once a r s e p q = once p q
+
+pub size-once : Once (size.Post tt)
+size-once a r s e p q = once p q
+
+pub update-looks-at-once : Once (update-looks-at.Post tt)
+update-looks-at-once a r s e p q = once p q
+
+pub size-looks-at-once : Once (size-looks-at.Post tt)
+size-looks-at-once a r s e p q = once p q
+
+pub size-cell-once : Once (size-cell.Post tt)
+size-cell-once a r s e p q = once p q
+
+pub on-to-once : Once (on-to.Post tt)
+on-to-once a r s e p q = once p q
+
+pub done-once : Once (done.Post tt)
+done-once a r s e p q = once p q
+
+pub read-cell-once : Once (read-cell.Post tt)
+read-cell-once a r s e p q = once p q
+
+pub forward-once : Once (forward.Post tt)
+forward-once a r s e p q = once p q
+
+pub first-cell-once : Once (first-cell.Post tt)
+first-cell-once a r s e p q = once p q
+
+pub goes-once : Once (goes.Post tt)
+goes-once a r s e p q = once p q
+
+pub go-to-once : Once (go-to.Post tt)
+go-to-once a r s e p q = once p q
+
+pub collect-cell-once : Once (collect-cell.Post tt)
+collect-cell-once a r s e p q = once p q
+
+pub collect-set-once : Once (collect-set.Post tt)
+collect-set-once a r s e p q = once p q
+
+pub sum-cell-once : Once (sum-cell.Post tt)
+sum-cell-once a r s e p q = once p q
+
+pub fix-size-once : Once (fix-size.Post tt)
+fix-size-once a r s e p q = once p q
