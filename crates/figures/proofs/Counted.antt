@@ -15,7 +15,7 @@ use Rattle.figures.proofs.Frame.{recordOf}
 use Rattle.figures.proofs.Begin.{start-records}
 use Rattle.figures.proofs.Threads.{moved}
 use Rattle.figures.proofs.Sound.{Sound, run-keeps-within, few-ops}
-use Rattle.figures.proofs.Own.{Own, own-step, idle-step}
+use Rattle.figures.proofs.OwnSteps.{Own, own-step, idle-step}
 use Rattle.figures.proofs.Sizes.{Ranks, ranks-start, ranks-step, size-steps, Announced, announced-start, announced-step, snapshots-step}
 
 pub record Facts (start : Machine) (counts s : List ℕ) (m : Machine) : Type 0 where

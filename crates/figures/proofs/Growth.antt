@@ -24,7 +24,7 @@ use Rattle.figures.specs.declared.Next.{Next}
 use Rattle.figures.specs.declared.Next.the-variants.{To, Returns}
 use Rattle.figures.specs.Limits.{invalid}
 use Rattle.figures.proofs.Laws.{test-case}
-use Rattle.figures.proofs.World.{World, put, put-same, put-other, put-case, key, cellOp, noOf, callFor, kindOf, updateCell, updateTarget, updateOp, tick, find, exchange, empty, raise, write, announce, lower, keep, fix, share, stand, return, act, update, compute, onward}
+use Rattle.figures.proofs.World.{World, put, put-same, put-other, put-case, key, cellOp, noOf, callFor, kindOf, updateCell, updateTarget, updateOp, tick, find, exchange, empty, raise, write, announce, lower, keep, fix, share, stand, return, act, update, compute, onward, kind-call}
 use Rattle.figures.proofs.Inv.{Core, Known, Noted, Behind, raisedTo}
 use Rattle.figures.proofs.Grows.{Alone, Still, Rise, Swap, Ages, Owed, Grows}
 use Rattle.figures.proofs.Guar.{Acting, RaisesNow, ForwardsNow, GuarUpdate, GuarSize, Guar}
@@ -292,10 +292,6 @@ module _ (x t o : ℕ) (w : World) where
       other s' b e = b (ap (w .size) e ∙ unfixed)
 
 -- ---- What it knows makes each of its changes one that grows the state.
-
-pub kind-call : (k : Kind) → kindOf (callFor k) ≡ k
-kind-call Insertion = refl
-kind-call Deletion = refl
 
 pub noted-cell : {w : World} {u : Update} {on : ℕ} → Noted w (u .node) (u .kind) on → cellOp w (updateOp u) ≡ updateCell u
 noted-cell {w} {u} m = rw (m .byThread, m .does, kind-call (u .kind))

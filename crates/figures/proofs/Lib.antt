@@ -5,7 +5,7 @@ pub mod Frame
 pub mod Begin
 pub mod Threads
 pub mod Sound
-pub mod Own
+pub mod OwnSteps
 pub mod Ranks
 pub mod Sizes
 pub mod Counted
@@ -30,7 +30,7 @@ pub mod FindersKept
 pub mod BalancesKept
 pub mod ReturnedKept
 pub mod Mirror
-pub mod Mirror2
+pub mod MirrorStart
 pub mod Same
 pub mod OwnUpdate
 pub mod OwnSize

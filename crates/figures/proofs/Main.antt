@@ -66,7 +66,7 @@ use Rattle.figures.proofs.ReturnedKept.{returned-tick, returned-act, re
 use Rattle.figures.proofs.Quiet.{act-last}
 use Rattle.figures.proofs.Pass.{core-pass, knows-pass}
 use Rattle.figures.proofs.Mirror.{worldOf, pass, count-at, cell-at, InRange, DeedInRange, UpdateInRange, SizeInRange, world-accessed, world-idled}
-use Rattle.figures.proofs.Mirror2.{total-mine, start-inv}
+use Rattle.figures.proofs.MirrorStart.{total-mine, start-inv}
 use Rattle.figures.proofs.OwnUpdate.{Sees, Onward, Branch, Past}
 use Rattle.figures.proofs.OwnSize.{thread-in}
 use Rattle.figures.proofs.OwnSet.{access-branch}

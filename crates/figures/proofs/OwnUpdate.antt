@@ -36,7 +36,7 @@ use Rattle.figures.specs.Figure6.{onTo, done, behind, forwardFrom}
 use Rattle.figures.specs.Figure5.{updateAt, updateLooksAt}
 use Rattle.figures.specs.Figure3.{insertion, deletion, afterwards, updateNext, updating}
 use Rattle.figures.proofs.Laws.{cond-case, eq-case, test-case}
-use Rattle.figures.proofs.World.{World, put, put-same, put-other, thr, key, call, cellOp, cellNo, callFor, kindOf, updateCell, updateTarget, updateOp, act, write, raise}
+use Rattle.figures.proofs.World.{World, put, put-same, put-other, thr, key, call, cellOp, cellNo, callFor, kindOf, updateCell, updateTarget, updateOp, act, write, raise, kind-call}
 use Rattle.figures.proofs.Inv.{Core, Known, Settles, Settled, Noted, Raised, Sighted, Forwarding, Behind, AtUpdate, IsFound, Owning, Helping, Marking, Clearing, Unlinking, Afterwards, AtUpdating, AtMark, AtHelp, AtUnlink, FoundSettled, Knows}
 use Rattle.figures.proofs.Inv.Settles.{alone, after, reached, caught}
 use Rattle.figures.proofs.Guar.{Acting, Guar, GuarUpdate, RaisesNow, ForwardsNow, ReturnsNow, ReturnsChanged, ReturnsFinder}
@@ -65,10 +65,6 @@ pub record Branch (T x : ℕ) (w : World) (t o : ℕ) (v : Move) : Type 0 where
 -- an exchanged operation that is not its thread's current one has returned
 abbrev pub Past : World → Type 0
 Past w = (u : ℕ) → 0 < w .exch u → w .op (thr w u) ≢ u → 0 < w .last u
-
-pub kind-call : (k : Kind) → kindOf (callFor k) ≡ k
-kind-call Insertion = refl
-kind-call Deletion = refl
 
 -- ---- What follows an update that is settled.
 

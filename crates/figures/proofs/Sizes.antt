@@ -49,7 +49,7 @@ use Rattle.figures.proofs.Frame.{recordOf, firstOf, lastOf, ownOf, poin
 use Rattle.figures.proofs.Begin.{Owned, owned-apart, before-grows, start-records, start-point}
 use Rattle.figures.proofs.Threads.{threadOf, moved}
 use Rattle.figures.proofs.Sound.{Sound}
-use Rattle.figures.proofs.Own.{before-snoc}
+use Rattle.figures.proofs.OwnSteps.{before-snoc}
 use Rattle.figures.proofs.Ranks.{Ranked, Sized-in, ranked-most, Fits, NextFits, fits-access, fits-stands}
 
 abbrev pub callAt : Machine → ℕ → Call

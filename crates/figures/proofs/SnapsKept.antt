@@ -19,7 +19,7 @@ use Rattle.figures.specs.declared.Next.{Next}
 use Rattle.figures.specs.declared.Next.the-variants.{To, Returns}
 use Rattle.figures.specs.Limits.{invalid}
 use Rattle.figures.proofs.Laws.{test-case, tests-differ}
-use Rattle.figures.proofs.World.{World, put, put-same, put-other, put-case, put-field, tick, act, onward, announce, lower, write, fix, fresh, cellOp, kindOf, callFor, noOf, updateOp, updateCell, updateTarget}
+use Rattle.figures.proofs.World.{World, put, put-same, put-other, put-case, put-field, tick, act, onward, announce, lower, write, fix, fresh, cellOp, kindOf, callFor, noOf, updateOp, updateCell, updateTarget, kind-call}
 use Rattle.figures.proofs.Inv.{Core, Known, Fair, ReadFor, Fixed, total, Snaps, Lowering}
 use Rattle.figures.proofs.Grows.{Grows}
 use Rattle.figures.proofs.Guar.{Acting, Guar, ForwardsNow, CollectsNow, FixesNow}
@@ -179,10 +179,6 @@ module _ (P : ℕ → Type 0) (w : World) (m p v s q : ℕ) where
 fresh-invalid : (q : ℕ) → q < 16 → fresh q ≡ invalid
 fresh-invalid q h = rw (lt-ltb q 16 h)
 
-kind-back : (k : Kind) → kindOf (callFor k) ≡ k
-kind-back Insertion = refl
-kind-back Deletion = refl
-
 module _ {T n x t o : ℕ} {w : World} (core : Core T n x w) (now : Acting T n x w t o) where
   snaps-write : (m p v : ℕ) → Grows x t o w (write m p v w) → Fair w m p v → Snaps T (suc x) (write m p v w)
   snaps-write m p v g new = snaps-steady core g (omega arith) (record { cur = refl; flag = λ s. refl; closed = λ s. refl }) valued
@@ -202,7 +198,7 @@ module _ {T n x t o : ℕ} {w : World} (core : Core T n x w) (now : Acting T n x
   forwards-fair s u d = record { low = low; reach = d .forwarding .reach; early = early }
     where
       cell : cellOp w (updateOp u) ≡ updateCell u
-      cell = rw (d .noted .does, kind-back, d .noted .byThread)
+      cell = rw (d .noted .does, kind-call, d .noted .byThread)
 
       raised : 0 < w .raised (updateOp u)
       raised = d .forwarding .sighted .raised .raised

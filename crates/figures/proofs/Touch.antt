@@ -17,17 +17,13 @@ use Rattle.figures.specs.declared.SizeDeed.the-variants.{Looks, Announce
 use Rattle.figures.specs.declared.Deed.{Deed}
 use Rattle.figures.specs.declared.Deed.the-variants.{Rests, Finds, Links, Marks, Unlinks, Updates, Sizes}
 use Rattle.figures.specs.declared.Asked.{Asked}
-use Rattle.figures.proofs.World.{World, put, put-other, put-field, thr, call, cellOp, cellNo, callFor, kindOf, updateCell, updateTarget, updateOp, act, find, exchange, raise, lower, update, compute}
+use Rattle.figures.proofs.World.{World, put, put-other, put-field, thr, call, cellOp, cellNo, callFor, kindOf, updateCell, updateTarget, updateOp, act, find, exchange, raise, lower, update, compute, kind-call}
 use Rattle.figures.proofs.Inv.{Core}
 use Rattle.figures.specs.declared.Next.{Next}
 use Rattle.figures.specs.declared.Next.the-variants.{To, Returns}
 use Rattle.figures.proofs.Guar.{Acting, Guar, GuarUpdate, GuarSize, New, RaisesNow, ReturnsNow}
 
 -- ---- The call that makes an update tells its kind, and so its cell.
-
-pub kind-call : (k : Kind) → kindOf (callFor k) ≡ k
-kind-call Insertion = refl
-kind-call Deletion = refl
 
 -- the cell of an operation that makes updates of kind k
 pub cell-does : (w : World) (o : ℕ) (k : Kind) → call w o ≡ callFor k → cellOp w o ≡ cellNo (thr w o) k

@@ -29,6 +29,7 @@ use Rattle.figures.specs.declared.Next.the-variants.{To, Returns}
 use Rattle.figures.specs.declared.Asked.{Asked}
 use Rattle.figures.specs.declared.Cell.{Cell}
 use Rattle.figures.specs.Limits.{invalid}
+pub use Rattle.figures.specs.Places.{kindOf}
 
 -- ---- A function with another value at one place.
 
@@ -77,11 +78,9 @@ abbrev pub callFor : Kind → Call
 callFor Insertion = Insert
 callFor Deletion = Delete
 
-abbrev pub kindOf : Call → Kind
-kindOf Insert = Insertion
-kindOf Delete = Deletion
-kindOf Contains = Insertion
-kindOf Size = Insertion
+pub kind-call : (k : Kind) → kindOf (callFor k) ≡ k
+kind-call Insertion = refl
+kind-call Deletion = refl
 
 abbrev pub updateCell : Update → ℕ
 updateCell u = cellNo (u .node .note .0 .0) (u .kind)
