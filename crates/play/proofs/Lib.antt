@@ -3,3 +3,4 @@ pub mod Accepted
 pub mod Results
 pub mod Decided
 pub mod Unique
+pub mod Instances
