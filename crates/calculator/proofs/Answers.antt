@@ -6,14 +6,7 @@ use Rattle.calculator.proofs.figure4.count_of.Reads as count-of
 use Rattle.calculator.proofs.figure4.count_at.Reads as count-at
 use Rattle.calculator.proofs.figure4.set_count.Reads as set-count
 use Rattle.calculator.proofs.figure4.block_of.Reads as block-of
-use Rattle.calculator.proofs.figure4.sight.Reads as sight
-use Rattle.calculator.proofs.figure4.window.Reads as window
 use Rattle.calculator.proofs.figure4.new_id.Reads as new-id
-use Rattle.calculator.proofs.figure4.raised.Reads as raised
-use Rattle.calculator.proofs.figure4.written.Reads as written
-use Rattle.calculator.proofs.figure4.announced.Reads as announced
-use Rattle.calculator.proofs.figure4.lowered.Reads as lowered
-use Rattle.calculator.proofs.figure4.fixed.Reads as fixed
 use Rattle.calculator.proofs.figure5.read_count.Reads as read-count
 use Rattle.calculator.proofs.figure5.raise_count.Reads as raise-count
 use Rattle.calculator.proofs.figure5.read_current.Reads as read-current
@@ -40,6 +33,19 @@ use Rattle.calculator.proofs.figure6.collect_cell.Reads as collect-cell
 use Rattle.calculator.proofs.figure6.collect_set.Reads as collect-set
 use Rattle.calculator.proofs.figure6.sum_cell.Reads as sum-cell
 use Rattle.calculator.proofs.figure6.fix_size.Reads as fix-size
+use Rattle.calculator.proofs.figure4.with_count.Reads as with-count
+use Rattle.calculator.proofs.figure4.sight_of.Reads as sight-of
+use Rattle.calculator.proofs.figure4.window_of.Reads as window-of
+use Rattle.calculator.proofs.exchange.before.Reads as before
+use Rattle.calculator.proofs.exchange.raised_pair.Reads as raised-pair
+use Rattle.calculator.proofs.exchange.exchanged.Reads as exchanged
+use Rattle.calculator.proofs.exchange.witnessed.Reads as witnessed
+use Rattle.calculator.proofs.exchange.traced.Reads as traced
+use Rattle.calculator.proofs.exchange.current_after.Reads as current-after
+use Rattle.calculator.proofs.exchange.update_asks.Reads as update-asks
+use Rattle.calculator.proofs.exchange.size_asks.Reads as size-asks
+use Rattle.calculator.proofs.exchange.size_changes.Reads as size-changes
+use Rattle.calculator.proofs.figure6.total.Reads as total
 
 pub one-more-once : Once (one-more.Post tt)
 one-more-once a r s e p q = once p q
@@ -59,29 +65,8 @@ set-count-once a r s e p q = once p q
 pub block-of-once : Once (block-of.Post tt)
 block-of-once a r s e p q = once p q
 
-pub sight-once : Once (sight.Post tt)
-sight-once a r s e p q = once p q
-
-pub window-once : Once (window.Post tt)
-window-once a r s e p q = once p q
-
 pub new-id-once : Once (new-id.Post tt)
 new-id-once a r s e p q = once p q
-
-pub raised-once : Once (raised.Post tt)
-raised-once a r s e p q = once p q
-
-pub written-once : Once (written.Post tt)
-written-once a r s e p q = once p q
-
-pub announced-once : Once (announced.Post tt)
-announced-once a r s e p q = once p q
-
-pub lowered-once : Once (lowered.Post tt)
-lowered-once a r s e p q = once p q
-
-pub fixed-once : Once (fixed.Post tt)
-fixed-once a r s e p q = once p q
 
 pub read-count-once : Once (read-count.Post tt)
 read-count-once a r s e p q = once p q
@@ -160,3 +145,42 @@ sum-cell-once a r s e p q = once p q
 
 pub fix-size-once : Once (fix-size.Post tt)
 fix-size-once a r s e p q = once p q
+
+pub with-count-once : Once (with-count.Post tt)
+with-count-once a r s e p q = once p q
+
+pub sight-of-once : Once (sight-of.Post tt)
+sight-of-once a r s e p q = once p q
+
+pub window-of-once : Once (window-of.Post tt)
+window-of-once a r s e p q = once p q
+
+pub before-once : Once (before.Post tt)
+before-once a r s e p q = once p q
+
+pub raised-pair-once : Once (raised-pair.Post tt)
+raised-pair-once a r s e p q = once p q
+
+pub exchanged-once : Once (exchanged.Post tt)
+exchanged-once a r s e p q = once p q
+
+pub witnessed-once : Once (witnessed.Post tt)
+witnessed-once a r s e p q = once p q
+
+pub traced-once : Once (traced.Post tt)
+traced-once a r s e p q = once p q
+
+pub current-after-once : Once (current-after.Post tt)
+current-after-once a r s e p q = once p q
+
+pub update-asks-once : Once (update-asks.Post tt)
+update-asks-once a r s e p q = once p q
+
+pub size-asks-once : Once (size-asks.Post tt)
+size-asks-once a r s e p q = once p q
+
+pub size-changes-once : Once (size-changes.Post tt)
+size-changes-once a r s e p q = once p q
+
+pub total-once : Once (total.Post tt)
+total-once a r s e p q = once p q

@@ -1,4 +1,5 @@
 // Figure 5, the methods of the calculator, one access each: updateMetadata and compute.
+use super::exchange::before;
 use super::figure4::new_id;
 use super::figure6::collect_cell;
 use super::figure6::collect_set;
@@ -24,15 +25,7 @@ use figures::UpdatePoint;
 use terms::SnapshotId;
 use terms::Target;
 ghost use mathlib.Core.Path.{_≡_};
-ghost use Prim.Native.Nat.{_-_};
 ghost use Rattle.figures.specs.Figure5.{readCount, raiseCount, readCurrent, readFlag, readAgain, updateAt, findCurrent, findFlag, announce, collectCount, lowerFlag, sizeAt, updateLooksAt, sizeLooksAt, sizeCell};
-
-// The value that the counter has before it is raised to c.
-fn before(c: Target) -> u32
-    ensures { λ r. ⌜ r ≡ c .0 - 1 ⌝ }
-{
-    if 0 < c.0 { c.0 - 1 } else { 0 }
-}
 
 // Line 78: read the counter; if it is c-1, exchange.
 pub fn read_count(c: Target, s: Sight) -> UpdateMove

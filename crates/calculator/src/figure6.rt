@@ -190,7 +190,7 @@ fn sum_of(k: Kind, b: [Counts; 8]) -> u64
 }
 
 // The sum of insertions less deletions.
-fn total(b: [Counts; 8]) -> u32
+pub fn total(b: [Counts; 8]) -> u32
     ensures { λ r. ⌜ r ≡ totalOf b ⌝ }
 {
     let up = sum_of(Kind::Insertion, b);

@@ -28,13 +28,15 @@ pub struct Cell {
     pub kind: Kind,
 }
 
-// An insertion number and a deletion number, of one thread.
+// An insertion number and a deletion number, of one thread. Laid out as C lays it out, as a snapshot is: a caller may lend these.
+#[repr(C)]
 pub struct Counts {
     pub insertions: u32,
     pub deletions: u32,
 }
 
 // CountersSnapshot (figure 4, lines 48 to 51).
+#[repr(C)]
 pub struct Snapshot {
     pub cells: [Counts; 8],
     pub collecting: bool,

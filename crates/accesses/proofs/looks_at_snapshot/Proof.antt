@@ -1,0 +1,30 @@
+use borrow.Author.Needs.{needs}
+use Rattle.accesses.proofs.looks_at_snapshot.Statement.{statement}
+use Rattle.accesses.proofs.looks_at_snapshot.Tie as tie
+
+pub looks-at-snapshot-spec : {M : Type 1} → statement M
+looks-at-snapshot-spec =
+    tie.close
+    (tie.spec
+    (λ c. search needs)
+    (λ c. search needs)
+    (λ c. search needs)
+    (λ c κs. tt)
+    (λ c. search needs)
+    (λ c. search needs)
+    (λ c. search needs)
+    (λ c. search needs)
+    (λ c. search needs)
+    (λ c. search needs)
+    (λ c. search needs)
+    (λ c κs. tt)
+    (λ c. simp (c .enum-told .given .1))
+    (λ c. simp (c .enum-told2 .given .1))
+    (λ c. simp (c .update-looks-at .ensures, c .before .before .p .given .1))
+    (λ c. simp (c .enum-told3 .given .1))
+    (λ c. simp (c .enum-told4 .given .1))
+    (λ c. simp (c .enum-told5 .given .1))
+    (λ c. simp (c .enum-told6 .given .1))
+    (λ c. simp (c .enum-told7 .given .1))
+    (λ c. simp (c .enum-told8 .given .1))
+    (λ c. search needs))
