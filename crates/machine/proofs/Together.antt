@@ -1,14 +1,9 @@
 -- The changes, part by part, make up what the definition of a step says.
-use Prim.Native.Nat.{ℕ, suc, zero, _≤_, _<_}
-use native.Mathlib.Omega.{arith}
+use Prim.Native.Nat.{ℕ, suc, zero, _≤_}
 use mathlib.Core.Path.{_≡_, refl, sym, ap, _∙_}
 use mathlib.Core.List.{List, [], _∷_}
 use lib.ListN.{length, getD, set, length-set}
 use lib.Seq.{set-out}
-use lib.Dec.{ltb}
-use mathlib.Core.Bool.{Bool, true, false}
-use borrow.Author.Tests.{ltb-true, ltb-false}
-use Rattle.calculator.proofs.Beyond.{getD-beyond}
 use Rattle.terms.specs.declared.ThreadId.{ThreadId}
 use Rattle.terms.specs.declared.OpId.{OpId}
 use Rattle.terms.specs.declared.SnapshotId.{SnapshotId}
@@ -28,10 +23,9 @@ use Rattle.figures.specs.declared.Slot.{Slot}
 use Rattle.figures.specs.declared.Local.{Local}
 use Rattle.figures.specs.declared.Record.{Record}
 use Rattle.figures.specs.declared.Machine.{Machine}
-use Rattle.figures.specs.declared.Move.{Move}
 use Rattle.figures.specs.Figure4.{more, windowOf, blockOf, setCount}
-use Rattle.figures.specs.Step.{noRecord, noSlot, noLocal, recordAt, localAt, contentAt, accessed, moveOf, withSeen, answered, counted, raisedAt, exchangedAt, withLook, withUsed, does, goesOn, ticked}
-use Rattle.machine.specs.Parts.{answeredBy, recordedBy, goesBy, stoodBy, heldBy, calculatedBy, raisedOp, raisedRecord, madeBy, actedBy}
+use Rattle.figures.specs.Step.{noRecord, noSlot, noLocal, recordAt, localAt, withSeen, answered, counted, raisedAt, exchangedAt, withLook, withUsed, does, goesOn, ticked}
+use Rattle.machine.specs.Parts.{answeredBy, goesBy, raisedRecord, actedBy}
 
 module _ {A : Type 0} (d : A) where
   -- a store of what is there changes nothing
@@ -160,32 +154,3 @@ module _ (m : Machine) (t : ThreadId) (o : OpId) (few : length (m .records) ≤ 
   together Unlinks x = goes-on x _ _ _ _ ∙ built _ (stored Empty) refl (counted-record x ∙ none-raised _)
   together (Updates d u) x = updates-together d u x
   together (Sizes d) x = sizes-together d x
-
--- the values that the code of an access goes through, each from the ones before, end in the access
-module _ (m : Machine) (t : ThreadId) (few : length (m .records) ≤ 255) where
-  pub through : {r p q k : Record} {held h : Content} {w : SnapshotId} {step : ℕ} {v : Move} {rs rs' : List Record} {ss : List Slot} {u : OpId} {e : Calculator} {s : Local} →
-      let l = localAt m t in
-      r ≡ recordAt m (l .op) → held ≡ contentAt m (r .asked .key) → w ≡ windowOf (m .calculator) → step ≡ more (m .clock) →
-      v ≡ madeBy t l (r .asked) (m .threads) (m .calculator) held →
-      k ≡ recordedBy step (v .deed) (v .next) r → rs ≡ set (m .records) (l .op .0) k →
-      u ≡ raisedOp (v .deed) → p ≡ getD rs (u .0) noRecord → q ≡ raisedAt step w p → rs' ≡ set rs (u .0) q →
-      h ≡ heldBy (v .deed) held → ss ≡ set (m .slots) (r .asked .key) (record { content = h }) →
-      e ≡ calculatedBy (v .deed) step (l .seen) (m .calculator) → s ≡ stoodBy (v .deed) (v .next) l →
-      _≡_ {A = Machine}
-      (record { threads = m .threads; keys = m .keys; clock = step; idle = m .idle; calculator = e; slots = ss; locals = set (m .locals) (t .0) s; records = rs' })
-      (accessed m t)
-  unfolding accessed moveOf
-  through er eh ew es ev ek ea eu ep eq eb eh' en ee es' =
-      rw (en, eb, eq, ep, ea, ek, eh', ee, es', eu, ew, es) (rw ev (rw eh (rw er (sym (together m t (localAt m t .op) few (moveOf m t .deed) (moveOf m t .next))))))
-
--- a thread with an operation left is there
-module _ (ls : List Local) (t : ℕ) (long : length ls ≡ 8) (busy : ltb (getD ls t noLocal .op .0) (getD ls t noLocal .end .0) ≡ true) where
-  inside : (b : Bool) → ltb t 8 ≡ b → t < 8
-  inside true h = ltb-true t 8 h
-  inside false h =
-      let e = ltb-true (getD ls t noLocal .op .0) (getD ls t noLocal .end .0) busy in
-      let z = simp (getD-beyond ls t 8 long (ltb-false t 8 h)) at e in
-      omega arith
-
-  pub busy-inside : t < 8
-  busy-inside = inside (ltb t 8) refl

@@ -1,6 +1,8 @@
 -- What an access changes, part by part: of its operation's record, of its thread, of its slot and of the calculator. The
--- contracts of the functions that make these changes cite them; that they make up a step is proved in proofs/Together.antt.
+-- contracts of the functions that make these changes cite them; that they make up a step is proved in proofs/Together.antt and
+-- proofs/Turns.antt.
 use Prim.Native.Nat.{ℕ}
+use mathlib.Core.Bool.{Bool, true, false}
 use mathlib.Core.List.{List}
 use lib.ListN.{getD, set}
 use Rattle.terms.specs.declared.ThreadId.{ThreadId}
@@ -20,20 +22,20 @@ use Rattle.figures.specs.declared.Deed.the-variants.{Rests, Finds, Links, Marks
 use Rattle.figures.specs.declared.Next.{Next}
 use Rattle.figures.specs.declared.Next.the-variants.{To, Returns}
 use Rattle.figures.specs.declared.Local.{Local}
-use Rattle.figures.specs.declared.Asked.{Asked}
 use Rattle.figures.specs.declared.Record.{Record}
 use Rattle.figures.specs.declared.Move.{Move}
+use Rattle.figures.specs.declared.Point.{Point}
+use Rattle.figures.specs.declared.Sight.{Sight}
+use Rattle.figures.specs.declared.Snapshot.{Snapshot}
 use Rattle.figures.specs.declared.Machine.{Machine}
-use Rattle.figures.specs.Figure4.{more, blockOf, setCount, raised, written, announced, lowered, fixed, windowOf, sightOf}
-use Rattle.figures.specs.Figure3.{cellOf, looksAtCell, looksAtSnapshot}
+use Rattle.figures.specs.Figure4.{more, blockOf, countAt, setCount, noTrace, raised, written, announced, lowered, fixed, windowOf}
+use Rattle.figures.specs.Figure3.{cellOf, looksAtCell}
 use Rattle.figures.specs.Step.{noRecord, noSlot, noLocal, withLook, withUsed, counted, answered, exchangedAt, raisedAt, withSeen, standing, finished, standsAt, accessOf}
-
--- ---- The access that thread t makes, by where it stands; between operations it begins the next one.
-
-abbrev pub madeBy : ThreadId → Local → Asked → ℕ → Calculator → Content → Move
-madeBy t l a threads c held =
-    let p = standsAt (l .point) (a .call) in
-    accessOf p t (l .op) (a .call) threads (l .seen) (sightOf c (looksAtSnapshot p) (looksAtCell t p)) held
+use Rattle.calculator.specs.Exchanges.{absent, sightIn, raisedIn, exchangedOf, tracedOf, currentOf}
+use Rattle.accesses.specs.Asks.{raiseOf, asksOf, changesOf}
+use Rattle.machine.specs.declared.Turn.{Turn}
+use Rattle.machine.specs.declared.Effect.{Effect}
+use Rattle.machine.specs.declared.Rest.{Rest}
 
 -- ---- Of the operation's record: the step is counted; what the deed tells of it; the answer.
 
@@ -100,7 +102,7 @@ heldBy Unlinks c = Empty
 heldBy (Updates d u) c = c
 heldBy (Sizes d) c = c
 
--- ---- Of the calculator.
+-- ---- Of the calculator, by the deed.
 
 abbrev pub updatedBy : UpdateDeed → Update → Calculator → Calculator
 updatedBy Reads u c = c
@@ -145,7 +147,7 @@ raisedOp Unlinks = record { 0 = 255 }
 raisedOp (Updates d u) = raisesOp d u
 raisedOp (Sizes d) = record { 0 = 255 }
 
--- ---- Together: the machine after an access that looked up slot `key`, with these deed and next.
+-- ---- Together, by the deed: the machine after an access that looked up slot `key`, with these deed and next.
 
 abbrev pub actedBy : Deed → Next → ℕ → ℕ → OpId → ℕ → Machine → Machine
 actedBy d x step t o key m =
@@ -160,3 +162,110 @@ actedBy d x step t o key m =
       locals = set (m .locals) t (stoodBy d x l);
       records = raisedRecord step (windowOf (m .calculator)) (raisedOp d) (set (m .records) (o .0) (recordedBy step d x (getD (m .records) (o .0) noRecord)));
     }
+
+-- ---- The same by what is asked of memory. A turn: what an access that stands at p gives, from the small parts that it is told.
+
+-- what an access of thread t sees
+abbrev pub seenFrom : ThreadId → Point → List Counts → SnapshotId → Snapshot → Sight
+seenFrom t p counters current looked =
+    sightIn (countAt counters (looksAtCell t p)) current looked (looksAtCell t p)
+
+-- its operation's record, its thread, where it stood and what it did
+abbrev pub turnBy : Point → Move → ℕ → Local → Record → Turn
+turnBy p v step l r =
+    record {
+      own = recordedBy step (v .deed) (v .next) r;
+      local = stoodBy (v .deed) (v .next) l;
+      point = p;
+      deed = v .deed;
+    }
+
+abbrev pub turnOf : ThreadId → ℕ → ℕ → Local → Record → Content → Sight → Turn
+turnOf t step threads l r held s =
+    let p = standsAt (l .point) (r .asked .call) in
+    turnBy p (accessOf p t (l .op) (r .asked .call) threads (l .seen) s held) step l r
+
+-- a deed that changes nothing but these two
+abbrev pub readsOnly : UpdateDeed → Bool
+readsOnly Reads = true
+readsOnly Raises = false
+readsOnly (Forwards n) = false
+
+abbrev pub looksOnly : SizeDeed → Bool
+looksOnly Looks = true
+looksOnly Announces = false
+looksOnly (Collects n j v) = false
+looksOnly (Lowers n) = false
+looksOnly (Keeps j v) = true
+looksOnly (Fixes n v) = false
+looksOnly (Shares n) = true
+
+abbrev pub quiet : Deed → Bool
+quiet Rests = true
+quiet (Finds c) = true
+quiet (Links n) = false
+quiet (Marks n d) = false
+quiet Unlinks = false
+quiet (Updates d u) = readsOnly d
+quiet (Sizes d) = looksOnly d
+
+-- what else it changes: the operation that it raises, the slot's content, a counter, and a record of the table of snapshots
+abbrev pub effectOf : Turn → Content → SnapshotId → List Counts → Effect
+effectOf v held current seen =
+    record {
+      raised = raisedOp (v .deed);
+      held = heldBy (v .deed) held;
+      raise = raiseOf (v .point);
+      exchange = asksOf (v .point) current seen;
+      changed = changesOf (v .point) current;
+    }
+
+-- a machine is the table of snapshots and the rest
+abbrev pub wholeOf : Rest → List Snapshot → Machine
+wholeOf m table =
+    record {
+      threads = m .threads;
+      keys = m .keys;
+      clock = m .clock;
+      idle = m .idle;
+      calculator = record { counters = m .counters; current = m .current; snapshots = table; traces = m .traces };
+      slots = m .slots;
+      locals = m .locals;
+      records = m .records;
+    }
+
+abbrev pub restOf : Machine → Rest
+restOf m =
+    record {
+      threads = m .threads;
+      keys = m .keys;
+      clock = m .clock;
+      idle = m .idle;
+      counters = m .calculator .counters;
+      current = m .calculator .current;
+      traces = m .calculator .traces;
+      slots = m .slots;
+      locals = m .locals;
+      records = m .records;
+    }
+
+-- both after a turn of thread t in operation o on key `key` that looked at this record while `window` was being collected
+abbrev pub nextOf : Turn → Effect → ThreadId → OpId → ℕ → Snapshot → SnapshotId → Rest → Rest
+nextOf u v t o key looked window m =
+    let step = more (m .clock) in
+    let n = v .changed .0 in
+    record {
+      threads = m .threads;
+      keys = m .keys;
+      clock = step;
+      idle = m .idle;
+      counters = raisedIn (m .counters) (v .raise .cell) (v .raise .target);
+      current = currentOf (v .exchange) (m .current);
+      traces = set (m .traces) n (tracedOf (v .exchange) looked step (getD (m .locals) (t .0) noLocal .seen) (getD (m .traces) n noTrace));
+      slots = set (m .slots) key (record { content = v .held });
+      locals = set (m .locals) (t .0) (u .local);
+      records = raisedRecord step window (v .raised) (set (m .records) (o .0) (u .own));
+    }
+
+abbrev pub tableOf : Effect → List Snapshot → List Snapshot
+tableOf v table = set table (v .changed .0) (exchangedOf (v .exchange) (getD table (v .changed .0) absent))

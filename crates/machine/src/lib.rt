@@ -1,201 +1,191 @@
-// The code of figure 3, the set over the calculator: one function per access, named after it (figure3.rt), the change that an
-// access makes, part by part (parts.rt), and here a step of a thread and a whole schedule. What each must yield is defined in
-// the crate `figures`.
-mod figure3;
+// A step of a thread and a whole schedule. What an access changes, part by part, is in parts.rt, one access over the small parts that
+// it is told of in told.rt; the arrays stay where the loop is, and each step loads a few of their elements, takes its turn and stores
+// them. What each must yield is defined in the crate `figures`.
 mod parts;
+pub mod told;
 
+use accesses::Raise;
+use calculator::exchange::Exchange;
+use calculator::exchange::exchanged;
+use calculator::exchange::traced;
 use calculator::figure4::one_more;
-use calculator::figure4::sight;
-use calculator::figure4::window;
-use figure3::access;
-use figure3::looks_at_cell;
-use figure3::looks_at_snapshot;
-use figure3::stands_at;
-use figures::Asked;
+use calculator::figure4::window_of;
 use figures::Calculator;
-use figures::Call;
-use figures::Change;
 use figures::Content;
+use figures::Counts;
+use figures::Deed;
 use figures::Local;
-use figures::Look;
 use figures::Machine;
-use figures::Move;
-use figures::Outcome;
+use figures::Point;
 use figures::Record;
 use figures::Slot;
-use parts::calculated;
-use parts::held_after;
-use parts::raised_at;
-use parts::raised_op;
-use parts::recorded;
-use parts::stood;
+use figures::Snapshot;
+use figures::Trace;
 use terms::OpId;
 use terms::SnapshotId;
-use terms::Target;
 use terms::ThreadId;
+use told::content_or_empty;
+use told::counters_of;
+use told::current_of;
+use told::effect_of;
+use told::exchange_or_none;
+use told::is_busy;
+use told::looks;
+use told::own_or_same;
+use told::raised_or_same;
+use told::record_at;
+use told::record_or_none;
+use told::sees;
+use told::slot_at;
+use told::slot_or_same;
+use told::snapshot_at;
+use told::snapshot_or_none;
+use told::thread_at;
+use told::turn_of;
+use told::was_quiet;
 ghost use mathlib.Core.Path.{_≡_};
-ghost use Prim.Native.Nat.{_<_};
-ghost use lib.ListN.{getD, set};
-ghost use lib.Dec.{ltb};
-ghost use Rattle.figures.specs.Step.{noRecord, noSlot, noLocal, accessed, stepOf, runOf};
-ghost use Rattle.machine.specs.Parts.{madeBy};
+ghost use Rattle.figures.specs.Step.{stepOf, runOf};
+ghost use Rattle.machine.specs.Parts.{wholeOf, restOf};
 
-fn no_record() -> Record
-    ensures { λ r. ⌜ r ≡ noRecord ⌝ }
-{
-    Record {
-        asked: Asked {
-            thread: ThreadId(0),
-            call: Call::Insert,
-            key: 0,
-        },
-        outcome: Outcome {
-            answer: 0,
-            first: 0,
-            last: 0,
-            own: 0,
-        },
-        look: Look {
-            read: 0,
-            found: Content::Empty,
-        },
-        change: Change {
-            target: Target(0),
-            exchanged: 0,
-            raised: 0,
-            window: SnapshotId(0),
-        },
-        snapshot: SnapshotId(0),
-    }
+// What an access gives: its operation's record, the thread, where it stood, and what it did.
+pub struct Turn {
+    pub own: Record,
+    pub local: Local,
+    pub point: Point,
+    pub deed: Deed,
 }
 
-fn record_at(rs: [Record; 64], o: OpId) -> Record
-    ensures { λ r. ⌜ r ≡ getD rs (o .0) noRecord ⌝ }
-{
-    let k = o.0 as usize;
-    if k < 64 { rs[k] } else { no_record() }
+// What else it changes: the operation that it raised (255: none), the slot's content, the counter that it exchanges, and the exchange
+// that it makes in the table of snapshots and where.
+pub struct Effect {
+    pub raised: OpId,
+    pub held: Content,
+    pub raise: Raise,
+    pub exchange: Exchange,
+    pub changed: SnapshotId,
 }
 
-fn with_record(mut rs: [Record; 64], o: OpId, r: Record) -> [Record; 64]
-    ensures { λ s. ⌜ s ≡ set rs (o .0) r ⌝ }
-{
-    let k = o.0 as usize;
-    if k < 64 {
-        rs[k] = r;
-    }
-    rs
+// A machine without its table of snapshots, which may be lent.
+pub struct Rest {
+    pub threads: u8,
+    pub keys: u8,
+    pub clock: u32,
+    pub idle: u32,
+    pub counters: [Counts; 8],
+    pub current: SnapshotId,
+    pub traces: [Trace; 65],
+    pub slots: [Slot; 16],
+    pub locals: [Local; 8],
+    pub records: [Record; 64],
 }
 
-fn content_at(ss: [Slot; 16], key: u8) -> Content
-    ensures { λ r. ⌜ r ≡ getD ss key noSlot .content ⌝ }
+pub fn rest_of(m: Machine) -> Rest
+    ensures { λ r. ⌜ r ≡ restOf m ⌝ }
 {
-    let k = key as usize;
-    if k < 16 {
-        let s = ss[k];
-        s.content
-    } else {
-        Content::Empty
-    }
-}
-
-fn with_content(mut ss: [Slot; 16], key: u8, c: Content) -> [Slot; 16]
-    ensures { λ s. ⌜ s ≡ set ss key (record { content = c }) ⌝ }
-{
-    let k = key as usize;
-    if k < 16 {
-        ss[k] = Slot { content: c };
-    }
-    ss
-}
-
-// Whether a thread has an operation left; one that is not there has none.
-fn is_busy(ls: [Local; 8], t: ThreadId) -> bool
-    ensures { λ r. ⌜ r ≡ ltb (getD ls (t .0) noLocal .op .0) (getD ls (t .0) noLocal .end .0) ⌝ }
-{
-    let k = t.0 as usize;
-    if k < 8 {
-        let l = ls[k];
-        l.op.0 < l.end.0
-    } else {
-        false
-    }
-}
-
-// The access that the thread makes, by where it stands; between operations it begins the next one.
-fn move_of(t: ThreadId, l: Local, a: Asked, threads: u8, c: Calculator, held: Content) -> Move
-    ensures { λ r. ⌜ r ≡ madeBy t l a threads c held ⌝ }
-{
-    let o = l.op;
-    let seen = l.seen;
-    let at = l.point;
-    let call = a.call;
-    let p = stands_at(at, call);
-    let s = sight(c, looks_at_snapshot(p), looks_at_cell(t, p));
-    access(p, t, o, call, threads, seen, s, held)
-}
-
-// A step of a thread with an operation left.
-fn accessed(mut m: Machine, t: ThreadId) -> Machine
-    requires { ⌜ t .0 < 8 ⌝ }
-    ensures { λ r. ⌜ r ≡ accessed m t ⌝ }
-{
-    let k = t.0 as usize;
-    let l = m.locals[k];
-    let o = l.op;
-    let seen = l.seen;
-    let rs = m.records;
-    let r = record_at(rs, o);
-    let a = r.asked;
-    let ss = m.slots;
-    let held = content_at(ss, a.key);
     let c = m.calculator;
-    let w = window(c);
-    let step = one_more(m.clock);
-    let v = move_of(t, l, a, m.threads, c, held);
-    let d = v.deed;
-    let x = v.next;
-    let own = with_record(rs, o, recorded(r, step, d, x));
-    let u = raised_op(d);
-    let all = with_record(own, u, raised_at(record_at(own, u), step, w));
-    m.records = all;
-    let hs = with_content(ss, a.key, held_after(held, d));
-    m.slots = hs;
-    let e = calculated(c, d, step, seen);
-    m.calculator = e;
-    m.clock = step;
-    let s = stood(l, d, x);
-    m.locals[k] = s;
-    m
+    let counters = c.counters;
+    let traces = c.traces;
+    let slots = m.slots;
+    let locals = m.locals;
+    let records = m.records;
+    let current = c.current;
+    Rest {
+        threads: m.threads,
+        keys: m.keys,
+        clock: m.clock,
+        idle: m.idle,
+        counters: counters,
+        current: current,
+        traces: traces,
+        slots: slots,
+        locals: locals,
+        records: records,
+    }
 }
 
-// A step of a thread with no operation left.
-fn idled(mut m: Machine) -> Machine
-    ensures { λ r. ⌜ r ≡ Rattle.figures.specs.Step.idled m ⌝ }
+pub fn whole_of(m: Rest, table: [Snapshot; 65]) -> Machine
+    ensures { λ r. ⌜ r ≡ wholeOf m table ⌝ }
 {
-    m.clock = one_more(m.clock);
-    m.idle = one_more(m.idle);
-    m
+    let counters = m.counters;
+    let traces = m.traces;
+    let slots = m.slots;
+    let locals = m.locals;
+    let records = m.records;
+    let current = m.current;
+    let c = Calculator {
+        counters: counters,
+        current: current,
+        snapshots: table,
+        traces: traces,
+    };
+    Machine {
+        threads: m.threads,
+        keys: m.keys,
+        clock: m.clock,
+        idle: m.idle,
+        calculator: c,
+        slots: slots,
+        locals: locals,
+        records: records,
+    }
+}
+
+pub fn play(machine: Machine, schedule: &[u8]) -> Machine
+    ensures { λ r. ⌜ r ≡ runOf machine (now (schedule .entry)) ⌝ }
+{
+    let calculator = machine.calculator;
+    let mut table = calculator.snapshots;
+    let mut m = rest_of(machine);
+    let mut i = 0;
+    while i < schedule.len() {
+        let t = ThreadId(schedule[i]);
+        i += 1;
+        let step = one_more(m.clock);
+        m.clock = step;
+        let k = thread_at(t);
+        let l = m.locals[k];
+        if is_busy(t, l) {
+            let o = l.op;
+            let seen = l.seen;
+            let e = record_at(o);
+            let r = record_or_none(o, m.records[e]);
+            let a = r.asked;
+            let q = slot_at(a.key);
+            let held = content_or_empty(a.key, m.slots[q]);
+            let n = looks(l, a);
+            let h = snapshot_at(n);
+            let looked = snapshot_or_none(n, table[h]);
+            let current = m.current;
+            let counters = m.counters;
+            let s = sees(t, l, a, counters, current, looked);
+            let v = turn_of(t, step, m.threads, l, r, held, s);
+            m.records[e] = own_or_same(v, o, m.records[e]);
+            let stood = v.local;
+            m.locals[k] = stood;
+            if !was_quiet(v) {
+                let c = effect_of(v, held, current, seen);
+                let g = snapshot_at(current);
+                let w = window_of(current, snapshot_or_none(current, table[g]));
+                let f = record_at(c.raised);
+                m.records[f] = raised_or_same(c, step, w, m.records[f]);
+                m.slots[q] = slot_or_same(c, a.key, m.slots[q]);
+                let y = snapshot_at(c.changed);
+                let x = exchange_or_none(c);
+                m.traces[y] = traced(x, looked, step, seen, m.traces[y]);
+                table[y] = exchanged(x, table[y]);
+                m.current = current_of(c, current);
+                m.counters = counters_of(c, counters);
+            }
+        } else {
+            m.idle = one_more(m.idle);
+        }
+    }
+    whole_of(m, table)
 }
 
 pub fn step(m: Machine, t: ThreadId) -> Machine
     ensures { λ r. ⌜ r ≡ stepOf m t ⌝ }
 {
-    let ls = m.locals;
-    if is_busy(ls, t) {
-        accessed(m, t)
-    } else {
-        idled(m)
-    }
-}
-
-pub fn play(m: Machine, schedule: &[u8]) -> Machine
-    ensures { λ r. ⌜ r ≡ runOf m (now (schedule .entry)) ⌝ }
-{
-    let mut n = m;
-    let mut i = 0;
-    while i < schedule.len() {
-        n = step(n, ThreadId(schedule[i]));
-        i += 1;
-    }
-    n
+    let one = [t.0];
+    play(m, &one)
 }

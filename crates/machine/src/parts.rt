@@ -1,15 +1,8 @@
-// What an access changes, part by part: of its operation's record, of its thread, of its slot and of the calculator.
-use super::figure3::cell_of;
-use calculator::figure4::announced;
+// What an access changes of its operation's record, of its thread and of its slot, part by part.
 use calculator::figure4::block_of;
-use calculator::figure4::fixed;
-use calculator::figure4::lowered;
 use calculator::figure4::one_more;
 use calculator::figure4::one_more_byte;
-use calculator::figure4::raised;
 use calculator::figure4::set_count;
-use calculator::figure4::written;
-use figures::Calculator;
 use figures::Content;
 use figures::Counts;
 use figures::Deed;
@@ -20,7 +13,6 @@ use figures::Outcome;
 use figures::Point;
 use figures::Record;
 use figures::SizeDeed;
-use figures::Update;
 use figures::UpdateDeed;
 use terms::OpId;
 use terms::SnapshotId;
@@ -29,7 +21,7 @@ ghost use mathlib.Core.Path.{_≡_};
 ghost use mathlib.Core.Bool.{cond};
 ghost use lib.Dec.{eqb};
 ghost use Rattle.figures.specs.Step.{withLook, withUsed, counted, answered, exchangedAt, raisedAt};
-ghost use Rattle.machine.specs.Parts.{usedBy, notedBy, recordedBy, summedBy, seenBy, stoodBy, heldBy, updatedBy, sizedBy, calculatedBy, raisedOp};
+ghost use Rattle.machine.specs.Parts.{usedBy, notedBy, recordedBy, summedBy, seenBy, stoodBy, heldBy, raisedOp};
 
 // An operation's first step, after one more.
 fn begun(first: u32, step: u32) -> u32
@@ -218,46 +210,6 @@ pub fn held_after(c: Content, d: Deed) -> Content
         Deed::Unlinks => Content::Empty,
         Deed::Updates(_, _) => c,
         Deed::Sizes(_) => c,
-    }
-}
-
-fn updated(c: Calculator, d: UpdateDeed, u: Update) -> Calculator
-    ensures { λ s. ⌜ s ≡ updatedBy d u c ⌝ }
-{
-    let j = cell_of(u);
-    match d {
-        UpdateDeed::Reads => c,
-        UpdateDeed::Raises => raised(c, j, u.node.note.1.0),
-        UpdateDeed::Forwards(n) => written(c, n, j, u.node.note.1.0),
-    }
-}
-
-fn sized(c: Calculator, d: SizeDeed, step: u32, seen: [Counts; 8]) -> Calculator
-    ensures { λ s. ⌜ s ≡ sizedBy d step seen c ⌝ }
-{
-    match d {
-        SizeDeed::Looks => c,
-        SizeDeed::Announces => announced(c, step),
-        SizeDeed::Collects(n, j, v) => written(c, n, j, v),
-        SizeDeed::Lowers(n) => lowered(c, n, step),
-        SizeDeed::Keeps(_, _) => c,
-        SizeDeed::Fixes(n, v) => fixed(c, n, v, seen),
-        SizeDeed::Shares(_) => c,
-    }
-}
-
-// The calculator after the step.
-pub fn calculated(c: Calculator, d: Deed, step: u32, seen: [Counts; 8]) -> Calculator
-    ensures { λ s. ⌜ s ≡ calculatedBy d step seen c ⌝ }
-{
-    match d {
-        Deed::Rests => c,
-        Deed::Finds(_) => c,
-        Deed::Links(_) => c,
-        Deed::Marks(_, _) => c,
-        Deed::Unlinks => c,
-        Deed::Updates(x, u) => updated(c, x, u),
-        Deed::Sizes(x) => sized(c, x, step, seen),
     }
 }
 

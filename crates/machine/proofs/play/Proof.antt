@@ -1,39 +1,156 @@
 -- `play` meets its contract: what is left of the schedule, run from the machine reached, gives what the whole gives.
-use Prim.Native.Nat.{ℕ, suc, _≤_, _<_, _-_, _+_}
+use Prim.Native.Nat.{ℕ, _≤_, _<_, _-_, _+_}
 use native.Mathlib.Omega.{arith}
 use native.Mathlib.Numerals.{add-one}
-use mathlib.Core.Path.{_≡_, refl, sym, _∙_, ap}
+use mathlib.Core.Path.{_≡_, refl, sym, ap, subst, _∙_}
+use mathlib.Core.Bool.{Bool, true, false, not}
 use mathlib.Core.List.{List}
-use lib.ListN.{length, drop, getD, drop-of-length-le}
+use lib.ListN.{length, drop, getD, length-map, length-set, drop-of-length-le}
 use lib.Seq.{drop-cons}
+use borrow.Author.Needs.{needs}
 use Rattle.figures.specs.declared.Machine.{Machine}
 use Rattle.figures.specs.Step.{stepOf, runOf}
+use Rattle.machine.specs.declared.Rest.{Rest}
+use Rattle.machine.specs.Parts.{wholeOf}
+use Rattle.machine.proofs.Stored.{Long, snapshot-read, exchange-made, through, glances, idles}
 use Rattle.machine.proofs.play.Statement.{statement}
 use Rattle.machine.proofs.play.Tie as tie
 
-run-more : (m : Machine) (s : List ℕ) (i : ℕ) → i < length s → runOf m (drop i s) ≡ runOf (stepOf m (record { 0 = getD s i 0 })) (drop (i + 1) s)
+pub run-more : (m : Machine) (s : List ℕ) (i : ℕ) → i < length s → runOf m (drop i s) ≡ runOf (stepOf m (record { 0 = getD s i 0 })) (drop (i + 1) s)
 unfolding runOf
 run-more m s i h = rw (drop-cons s i 0 h, add-one)
 
-run-none : (m : Machine) (s : List ℕ) (i : ℕ) → length s ≤ i → runOf m (drop i s) ≡ m
+pub run-none : (m : Machine) (s : List ℕ) (i : ℕ) → length s ≤ i → runOf m (drop i s) ≡ m
 unfolding runOf
 run-none m s i h = rw (drop-of-length-le s {i = i} h)
 
+was-so : (b : Bool) → not b ≡ false → b ≡ true
+was-so true e = refl
+was-so false e = sym e
+
 abbrev Inv-loop : tie.InvT-loop
-Inv-loop schedule n₀ i₀ n i = (i ≤ length schedule) × (runOf n (drop i schedule) ≡ runOf n₀ schedule)
+Inv-loop schedule table₀ m₀ i₀ table m i =
+    (i ≤ length schedule) × (runOf (wholeOf m table) (drop i schedule) ≡ runOf (wholeOf m₀ table₀) schedule) × Long m × (length table ≡ 65)
 
 abbrev μ-loop : tie.MeasureT-loop
-μ-loop schedule n₀ i₀ n i = length schedule - i
+μ-loop schedule table₀ m₀ i₀ table m i = length schedule - i
 
+loop-holds : tie.Need-loop-holds Inv-loop μ-loop
+loop-holds c =
+    let g = c .before .before .before .before .good .0 in
+    let q = g .1 .1 .1 .1 .1 .1 .0 in (
+      omega arith,
+      refl,
+      subst (λ (m : Rest). Long m) (sym (c .rest-of .ensures))
+          (record {
+            counters = simp length-map at (q .1 .1 .0 .1 .0 .1);
+            traces = simp length-map at (q .1 .1 .1 .1 .1 .0 .1 .0 .1);
+            slots = simp length-map at (g .1 .1 .1 .1 .1 .1 .1 .0 .1 .0 .1);
+            locals = simp length-map at (g .1 .1 .1 .1 .1 .1 .1 .1 .0 .1 .0 .1);
+            records = simp length-map at (g .1 .1 .1 .1 .1 .1 .1 .1 .1 .0 .1 .0 .1);
+          }),
+      simp length-map at (q .1 .1 .1 .1 .0 .1 .0 .1),
+    )
+
+loop-less : tie.Need-loop-less Inv-loop μ-loop
+loop-less c = omega (arith, c .before .before .before .before .before .before .before .before .before .before .before .before .before .before .before .before .before .before .before .before .before .before .before .before .before .before .before .before .before .before .before .before .before .before .before .before .before .before .before .before .before .before .before .before .before .before .loop-test .taken)
+
+-- it changed something else
 loop-again : tie.Need-loop-again Inv-loop μ-loop
 loop-again c =
-    let n = c .before .before .before .loop in
-    (omega arith, rw (c .step .ensures) (sym (run-more (n .n) _ _ (c .before .before .loop-test .taken)) ∙ n .inv .1))
+    let n = c .before .before .before .before .before .before .before .before .before .before .before .before .before .before .before .before .before .before .before .before .before .before .before .before .before .before .before .before .before .before .before .before .before .before .before .before .before .before .before .before .before .before .before .before .before .before .before .loop in
+    let schedule = c .before .before .before .before .before .before .before .before .before .before .before .before .before .before .before .before .before .before .before .before .before .before .before .before .before .before .before .before .before .before .before .before .before .before .before .before .before .before .before .before .before .before .before .before .before .before .before .before .before .before .before .before .args .schedule .now in
+    let taken = c .before .before .before .before .before .before .before .before .before .before .before .before .before .before .before .before .before .before .before .before .before .before .before .before .before .before .before .before .before .before .before .before .before .before .before .before .before .before .before .before .before .before .before .before .before .before .loop-test .taken in
+    let made = exchange-made (n .table) (n .inv .3) (c .before .before .before .before .before .before .before .before .before .before .before .before .before .before .before .before .before .effect-of .result) (c .before .before .before .before .before .before .before .snapshot-at3 .ensures .0) (c .before .before .before .before .before .before .exchange-or-none .ensures) (c .before .before .exchanged .ensures) in
+    let step =
+    through (n .m) (n .table) (record { 0 = getD schedule (n .i) 0 }) (n .inv .2)
+    (c .before .before .before .before .before .before .before .before .before .before .before .before .before .before .before .before .before .before .before .before .before .before .before .before .before .before .before .before .before .before .before .before .before .before .before .before .before .before .before .before .before .before .before .before .one-more .ensures)
+    (c .before .before .before .before .before .before .before .before .before .before .before .before .before .before .before .before .before .before .before .before .before .before .before .before .before .before .before .before .before .before .before .before .before .before .before .before .before .before .before .before .before .before .before .thread-at .ensures .0)
+    refl
+    (sym (c .before .before .before .before .before .before .before .before .before .before .before .before .before .before .before .before .before .before .before .before .before .before .before .before .before .before .before .before .before .before .before .before .before .before .before .before .before .before .before .before .before .is-busy .ensures) ∙ c .before .before .before .before .before .before .before .before .before .before .before .before .before .before .before .before .before .before .before .before .before .before .before .before .before .before .before .before .before .before .before .before .before .before .before .before .before .before .before .before .if1 .taken)
+    (c .before .before .before .before .before .before .before .before .before .before .before .before .before .before .before .before .before .before .before .before .before .before .before .before .before .before .before .before .before .before .before .before .before .before .before .before .before .record-at .ensures .0)
+    (c .before .before .before .before .before .before .before .before .before .before .before .before .before .before .before .before .before .before .before .before .before .before .before .before .before .before .before .before .before .before .before .before .before .before .before .record-or-none .ensures)
+    (c .before .before .before .before .before .before .before .before .before .before .before .before .before .before .before .before .before .before .before .before .before .before .before .before .before .before .before .before .before .before .before .before .before .slot-at .ensures .0)
+    (c .before .before .before .before .before .before .before .before .before .before .before .before .before .before .before .before .before .before .before .before .before .before .before .before .before .before .before .before .before .before .before .content-or-empty .ensures)
+    (c .before .before .before .before .before .before .before .before .before .before .before .before .before .before .before .before .before .before .before .before .before .before .before .before .before .before .before .before .before .before .looks .ensures)
+    (snapshot-read (n .table) (n .inv .3) (c .before .before .before .before .before .before .before .before .before .before .before .before .before .before .before .before .before .before .before .before .before .before .before .before .before .before .before .before .before .before .looks .result) (c .before .before .before .before .before .before .before .before .before .before .before .before .before .before .before .before .before .before .before .before .before .before .before .before .before .before .before .before .before .snapshot-at .ensures .0) (c .before .before .before .before .before .before .before .before .before .before .before .before .before .before .before .before .before .before .before .before .before .before .before .before .before .before .before .snapshot-or-none .ensures))
+    (snapshot-read (n .table) (n .inv .3) (n .m .current) (c .before .before .before .before .before .before .before .before .before .before .before .before .before .before .before .before .snapshot-at2 .ensures .0) (c .before .before .before .before .before .before .before .before .before .before .before .before .before .before .snapshot-or-none2 .ensures))
+    (c .before .before .before .before .before .before .before .before .before .before .before .before .before .window-of .ensures)
+    (c .before .before .before .before .before .before .before .before .before .before .before .before .before .before .before .before .before .before .before .before .before .before .before .before .sees .ensures)
+    (c .before .before .before .before .before .before .before .before .before .before .before .before .before .before .before .before .before .before .before .before .before .before .before .turn-of .ensures)
+    (c .before .before .before .before .before .before .before .before .before .before .before .before .before .before .before .before .before .effect-of .ensures)
+    (c .before .before .before .before .before .before .before .before .before .before .before .before .before .before .before .before .before .before .before .before .before .own-or-same .ensures)
+    (c .before .before .before .before .before .before .before .before .before .before .before .before .record-at2 .ensures .0)
+    (c .before .before .before .before .before .before .before .before .before .before .raised-or-same .ensures)
+    (c .before .before .before .before .before .before .before .before .slot-or-same .ensures)
+    (c .before .before .before .before .before .before .before .snapshot-at3 .ensures .0)
+    (c .before .before .before .before .before .before .exchange-or-none .ensures)
+    (c .before .before .before .before .traced .ensures)
+    made
+    (c .before .current-of .ensures)
+    (c .counters-of .ensures)
+    in
+    (omega (arith, taken), ap (λ (m : Machine). runOf m (drop (n .i + 1) schedule)) (step .0) ∙ sym (run-more (wholeOf (n .m) (n .table)) schedule (n .i) taken) ∙ n .inv .1, step .1, length-set (n .table) _ _ ∙ n .inv .3)
+
+loop-less-2 : tie.Need-loop-less-2 Inv-loop μ-loop
+loop-less-2 c = omega (arith, c .before .before .before .before .before .before .before .before .before .before .before .before .before .before .before .before .before .before .before .before .before .before .before .before .before .before .before .before .loop-test .taken)
+
+-- it did not
+loop-again-2 : tie.Need-loop-again-2 Inv-loop μ-loop
+loop-again-2 c =
+    let n = c .before .before .before .before .before .before .before .before .before .before .before .before .before .before .before .before .before .before .before .before .before .before .before .before .before .before .before .before .before .loop in
+    let schedule = c .before .before .before .before .before .before .before .before .before .before .before .before .before .before .before .before .before .before .before .before .before .before .before .before .before .before .before .before .before .before .before .before .before .before .args .schedule .now in
+    let taken = c .before .before .before .before .before .before .before .before .before .before .before .before .before .before .before .before .before .before .before .before .before .before .before .before .before .before .before .before .loop-test .taken in
+    let step =
+    glances (n .m) (n .table) (record { 0 = getD schedule (n .i) 0 }) (n .inv .2)
+    (c .before .before .before .before .before .before .before .before .before .before .before .before .before .before .before .before .before .before .before .before .before .before .before .before .before .before .one-more .ensures)
+    (c .before .before .before .before .before .before .before .before .before .before .before .before .before .before .before .before .before .before .before .before .before .before .before .before .before .thread-at .ensures .0)
+    refl
+    (sym (c .before .before .before .before .before .before .before .before .before .before .before .before .before .before .before .before .before .before .before .before .before .before .before .is-busy .ensures) ∙ c .before .before .before .before .before .before .before .before .before .before .before .before .before .before .before .before .before .before .before .before .before .before .if1 .taken)
+    (c .before .before .before .before .before .before .before .before .before .before .before .before .before .before .before .before .before .before .before .record-at .ensures .0)
+    (c .before .before .before .before .before .before .before .before .before .before .before .before .before .before .before .before .before .record-or-none .ensures)
+    (c .before .before .before .before .before .before .before .before .before .before .before .before .before .before .before .slot-at .ensures .0)
+    (c .before .before .before .before .before .before .before .before .before .before .before .before .before .content-or-empty .ensures)
+    (c .before .before .before .before .before .before .before .before .before .before .before .before .looks .ensures)
+    (snapshot-read (n .table) (n .inv .3) (c .before .before .before .before .before .before .before .before .before .before .before .before .looks .result) (c .before .before .before .before .before .before .before .before .before .before .before .snapshot-at .ensures .0) (c .before .before .before .before .before .before .before .before .before .snapshot-or-none .ensures))
+    (c .before .before .before .before .before .before .sees .ensures)
+    (c .before .before .before .before .before .turn-of .ensures)
+    (c .before .before .before .own-or-same .ensures)
+    (sym (c .before .was-quiet .ensures) ∙ was-so _ (c .if2 .left))
+    in
+    (omega (arith, taken), ap (λ (m : Machine). runOf m (drop (n .i + 1) schedule)) (step .0) ∙ sym (run-more (wholeOf (n .m) (n .table)) schedule (n .i) taken) ∙ n .inv .1, step .1, n .inv .3)
+
+loop-less-3 : tie.Need-loop-less-3 Inv-loop μ-loop
+loop-less-3 c = omega (arith, c .before .before .before .before .before .before .before .loop-test .taken)
+
+-- it has no operation left
+loop-again-3 : tie.Need-loop-again-3 Inv-loop μ-loop
+loop-again-3 c =
+    let n = c .before .before .before .before .before .before .before .before .loop in
+    let schedule = c .before .before .before .before .before .before .before .before .before .before .before .before .before .args .schedule .now in
+    let taken = c .before .before .before .before .before .before .before .loop-test .taken in
+    let step =
+    idles (n .m) (n .table) (record { 0 = getD schedule (n .i) 0 }) (n .inv .2) (c .before .before .before .before .before .one-more .ensures) (c .one-more2 .ensures) (c .before .before .before .before .thread-at .ensures .0) refl (sym (c .before .before .is-busy .ensures) ∙ c .before .if1 .left)
+    in (
+      omega (arith, taken),
+      ap (λ (m : Machine). runOf m (drop (n .i + 1) schedule)) step ∙ sym (run-more (wholeOf (n .m) (n .table)) schedule (n .i) taken) ∙ n .inv .1,
+      record {
+        counters = n .inv .2 .counters;
+        traces = n .inv .2 .traces;
+        slots = n .inv .2 .slots;
+        locals = n .inv .2 .locals;
+        records = n .inv .2 .records;
+      },
+      n .inv .3,
+    )
 
 returns : tie.Need-returns Inv-loop μ-loop
 returns c =
-    let n = c .before .loop in
-    sym (run-none (n .n) (c .before .before .before .args .schedule .now) (n .i) (omega arith)) ∙ n .inv .1
+    let n = c .before .before .loop in
+    let machine = c .before .before .before .before .before .before .before .args .machine in
+    let schedule = c .before .before .before .before .before .before .before .args .schedule .now in
+    c .whole-of .ensures ∙ sym (run-none (wholeOf (n .m) (n .table)) schedule (n .i) (omega (arith, c .before .loop-test .left))) ∙ n .inv .1
+    ∙ ap (λ (m : Rest). runOf (wholeOf m (machine .calculator .snapshots)) schedule) (c .before .before .before .rest-of .ensures)
 
 pub play-spec : {M : Type 1} → statement M
 play-spec =
@@ -41,10 +158,75 @@ play-spec =
     (tie.spec
     Inv-loop
     μ-loop
-    (λ c. (omega arith, refl))
-    (λ c. omega arith)
     (λ c κs. tt)
-    (λ c. omega arith)
-    (λ c. omega arith)
+    loop-holds
+    (λ c. search needs)
+    (λ c. search needs)
+    (λ c κs. tt)
+    (λ c κs. tt)
+    (λ c. search (needs, c .thread-at .ensures .1))
+    (λ c. search (needs, c .thread-at .ensures .1))
+    (λ c κs. tt)
+    (λ c κs. tt)
+    (λ c. search (needs, c .record-at .ensures .1))
+    (λ c. search (needs, c .record-at .ensures .1))
+    (λ c κs. tt)
+    (λ c κs. tt)
+    (λ c. search (needs, c .slot-at .ensures .1))
+    (λ c. search (needs, c .slot-at .ensures .1))
+    (λ c κs. tt)
+    (λ c κs. tt)
+    (λ c κs. tt)
+    (λ c. search (needs, c .snapshot-at .ensures .1))
+    (λ c. search (needs, c .snapshot-at .ensures .1))
+    (λ c κs. tt)
+    (λ c κs. tt)
+    (λ c κs. tt)
+    (λ c. search (needs, c .before .before .before .before .before .before .before .before .before .before .before .before .before .before .record-at .ensures .1))
+    (λ c. search (needs, c .before .before .before .before .before .before .before .before .before .before .before .before .before .before .record-at .ensures .1))
+    (λ c κs. tt)
+    (λ c. search (needs, c .before .before .before .before .before .before .before .before .before .before .before .before .before .before .before .before .record-at .ensures .1))
+    (λ c. search (needs, c .before .before .before .before .before .before .before .before .before .before .before .before .before .before .before .before .record-at .ensures .1))
+    (λ c. search (needs, c .before .before .before .before .before .before .before .before .before .before .before .before .before .before .before .before .before .before .before .before .before .before .before .thread-at .ensures .1))
+    (λ c. search (needs, c .before .before .before .before .before .before .before .before .before .before .before .before .before .before .before .before .before .before .before .before .before .before .before .thread-at .ensures .1))
+    (λ c κs. tt)
+    (λ c κs. tt)
+    (λ c κs. tt)
+    (λ c. search (needs, c .snapshot-at2 .ensures .1))
+    (λ c. search (needs, c .snapshot-at2 .ensures .1))
+    (λ c κs. tt)
+    (λ c κs. tt)
+    (λ c κs. tt)
+    (λ c. search (needs, c .record-at2 .ensures .1))
+    (λ c. search (needs, c .record-at2 .ensures .1))
+    (λ c κs. tt)
+    (λ c. search (needs, c .before .before .record-at2 .ensures .1))
+    (λ c. search (needs, c .before .before .record-at2 .ensures .1))
+    (λ c. search (needs, c .before .before .before .before .before .before .before .before .before .before .before .before .before .before .before .before .before .before .before .before .before .before .before .slot-at .ensures .1))
+    (λ c. search (needs, c .before .before .before .before .before .before .before .before .before .before .before .before .before .before .before .before .before .before .before .before .before .before .before .slot-at .ensures .1))
+    (λ c κs. tt)
+    (λ c. search (needs, c .before .before .before .before .before .before .before .before .before .before .before .before .before .before .before .before .before .before .before .before .before .before .before .before .before .slot-at .ensures .1))
+    (λ c. search (needs, c .before .before .before .before .before .before .before .before .before .before .before .before .before .before .before .before .before .before .before .before .before .before .before .before .before .slot-at .ensures .1))
+    (λ c κs. tt)
+    (λ c κs. tt)
+    (λ c. search (needs, c .before .snapshot-at3 .ensures .1))
+    (λ c. search (needs, c .before .snapshot-at3 .ensures .1))
+    (λ c κs. tt)
+    (λ c. search (needs, c .before .before .before .snapshot-at3 .ensures .1))
+    (λ c. search (needs, c .before .before .before .snapshot-at3 .ensures .1))
+    (λ c. search (needs, c .before .before .before .snapshot-at3 .ensures .1))
+    (λ c. search (needs, c .before .before .before .snapshot-at3 .ensures .1))
+    (λ c κs. tt)
+    (λ c. search (needs, c .before .before .before .before .before .snapshot-at3 .ensures .1))
+    (λ c. search (needs, c .before .before .before .before .before .snapshot-at3 .ensures .1))
+    (λ c κs. tt)
+    (λ c κs. tt)
+    loop-less
     loop-again
+    loop-less-2
+    loop-again-2
+    (λ c κs. tt)
+    loop-less-3
+    loop-again-3
+    (λ c κs. tt)
     returns)

@@ -1,5 +1,0 @@
-use Rattle.machine.proofs.figure3.goes_to.Statement.{statement}
-use Rattle.machine.proofs.figure3.goes_to.Tie as tie
-
-pub goes-to-spec : {M : Type 1} → statement M
-goes-to-spec = tie.close (tie.spec (λ c κs. tt) (λ c κs. tt) (λ c. simp (c .moves .ensures, c .before .to .ensures)))
