@@ -1,4 +1,4 @@
-pub mod Beyond
 pub mod Filled
+pub mod Placed
 pub mod Selected
 pub mod Unique

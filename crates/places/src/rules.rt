@@ -1,30 +1,62 @@
-// Document 01, "Where an operation stands in the log": a function for each rule, in its order.
+// Document 01, "Where an operation stands in the log": a function for each rule, in its order. Each takes the few parts of the
+// machine that its rule reads, since a machine by value is copied at each call.
+use calculator::figure4::count_at;
 use figures::Asked;
-use figures::Calculator;
 use figures::Call;
 use figures::Cell;
 use figures::Change;
 use figures::Content;
-use figures::Counts;
 use figures::Kind;
 use figures::Look;
 use figures::Machine;
 use figures::Outcome;
 use figures::Place;
 use figures::Record;
+use figures::Snapshot;
+use figures::Trace;
 use terms::OpId;
 use terms::SnapshotId;
 use terms::Target;
 use terms::ThreadId;
 ghost use mathlib.Core.Path.{_≡_};
 ghost use mathlib.Core.Bool.{_||_};
-ghost use Rattle.figures.specs.Figure4.{countOf, countAt, snapshotAt, traceAt};
-ghost use Rattle.figures.specs.Step.{noRecord, recordAt};
-ghost use Rattle.figures.specs.Places.{returned, wasRaised, sizeStands, kindOf, ownCell, missed, updateStands, place, afterStands, finderStands, setStands, stands, placeOf, numberOf};
+ghost use Rattle.figures.specs.Step.{noRecord};
+ghost use Rattle.figures.specs.Places.{returned, wasRaised, kindOf, ownCell, place, afterStands, numberOf};
+ghost use Rattle.places.specs.Parts.{windowOf, noWindow, deciderOf, sizeStandsBy, missedBy, updateStandsBy, finderStandsBy, setStandsBy, standsBy};
 
-// ---- What is read of a machine. An operation, a snapshot or a thread that is not there gives zeros.
+// ---- The parts that are read of a machine. An operation, a snapshot or a thread that is not there gives zeros.
 
-fn no_record() -> Record
+// What an update reads of the snapshot that was being collected at its raising: the size, the step of the closing, and the value
+// that the winner read from the update's cell for its sum.
+pub struct Window {
+    pub size: u32,
+    pub closed: u32,
+    pub seen: u32,
+}
+
+pub fn window_of(s: Snapshot, t: Trace, j: Cell) -> Window
+    ensures { λ w. ⌜ w ≡ windowOf s t j ⌝ }
+{
+    let b = t.seen;
+    let seen = count_at(b, j);
+    Window {
+        size: s.size,
+        closed: t.closed,
+        seen: seen,
+    }
+}
+
+pub fn no_window() -> Window
+    ensures { λ w. ⌜ w ≡ noWindow ⌝ }
+{
+    Window {
+        size: 0,
+        closed: 0,
+        seen: 0,
+    }
+}
+
+pub fn no_record() -> Record
     ensures { λ r. ⌜ r ≡ noRecord ⌝ }
 {
     let asked = Asked {
@@ -57,78 +89,6 @@ fn no_record() -> Record
     }
 }
 
-pub fn record_at(m: Machine, o: OpId) -> Record
-    ensures { λ r. ⌜ r ≡ recordAt m o ⌝ }
-{
-    let k = o.0 as usize;
-    if k < 64 { m.records[k] } else { no_record() }
-}
-
-fn size_at(c: Calculator, n: SnapshotId) -> u32
-    ensures { λ r. ⌜ r ≡ snapshotAt c n .size ⌝ }
-{
-    let k = n.0 as usize;
-    if k < 65 {
-        let s = c.snapshots[k];
-        s.size
-    } else {
-        0
-    }
-}
-
-fn closed_at(c: Calculator, n: SnapshotId) -> u32
-    ensures { λ r. ⌜ r ≡ traceAt c n .closed ⌝ }
-{
-    let k = n.0 as usize;
-    if k < 65 {
-        let t = c.traces[k];
-        t.closed
-    } else {
-        0
-    }
-}
-
-fn count_of(k: Kind, c: Counts) -> u32
-    ensures { λ r. ⌜ r ≡ countOf k c ⌝ }
-{
-    match k {
-        Kind::Insertion => c.insertions,
-        Kind::Deletion => c.deletions,
-    }
-}
-
-fn count_at(b: [Counts; 8], j: Cell) -> u32
-    ensures { λ r. ⌜ r ≡ countAt b j ⌝ }
-{
-    let i = j.thread.0 as usize;
-    let k = j.kind;
-    if i < 8 {
-        count_of(k, b[i])
-    } else {
-        count_of(
-            k,
-            Counts {
-                insertions: 0,
-                deletions: 0,
-            },
-        )
-    }
-}
-
-// The value that snapshot n's winner read from cell j for its sum.
-fn seen_at(c: Calculator, n: SnapshotId, j: Cell) -> u32
-    ensures { λ r. ⌜ r ≡ countAt (traceAt c n .seen) j ⌝ }
-{
-    let k = n.0 as usize;
-    if k < 65 {
-        let w = c.traces[k];
-        let b = w.seen;
-        count_at(b, j)
-    } else {
-        0
-    }
-}
-
 // ---- Only returned operations and raised updates are listed.
 
 pub fn was_raised(r: Record) -> bool
@@ -145,16 +105,32 @@ pub fn is_listed(r: Record) -> bool
     if 0 < w.last { true } else { was_raised(r) }
 }
 
+// The operation whose update decides where operation o stands: its own if that was raised, else the one that was found. Where
+// none was found it is not asked, and o will do.
+pub fn decider(o: OpId, r: Record) -> OpId
+    ensures { λ d. ⌜ d ≡ deciderOf o r ⌝ }
+{
+    if was_raised(r) {
+        return o;
+    }
+    let l = r.look;
+    let found = l.found;
+    match found {
+        Content::Empty => o,
+        Content::Live(d) => d.op,
+        Content::Marked(_, d) => d.op,
+    }
+}
+
 // ---- Size: at its snapshot's closing; several by thread number.
 
-pub fn size_stands(m: Machine, r: Record) -> Place
-    ensures { λ p. ⌜ p ≡ sizeStands m r ⌝ }
+pub fn size_stands(r: Record, closed: u32) -> Place
+    ensures { λ p. ⌜ p ≡ sizeStandsBy r closed ⌝ }
 {
-    let c = m.calculator;
     let a = r.asked;
     let tie = a.thread.0 as u32;
     Place {
-        step: closed_at(c, r.snapshot),
+        step: closed,
         rank: 0,
         tie: tie,
         read: 0,
@@ -174,7 +150,7 @@ fn kind_of(call: Call) -> Kind
     }
 }
 
-fn own_cell(r: Record) -> Cell
+pub fn own_cell(r: Record) -> Cell
     ensures { λ j. ⌜ j ≡ ownCell r ⌝ }
 {
     let a = r.asked;
@@ -187,36 +163,33 @@ fn own_cell(r: Record) -> Cell
 }
 
 // The winner's own reading counts, not what the cell holds by now.
-pub fn missed(m: Machine, r: Record) -> bool
-    ensures { λ b. ⌜ b ≡ missed m r ⌝ }
+pub fn missed(r: Record, w: Window) -> bool
+    ensures { λ b. ⌜ b ≡ missedBy r w ⌝ }
 {
     let u = r.change;
     let s = u.window;
     if s.0 == 0 {
         return false;
     }
-    let c = m.calculator;
-    if size_at(c, s) == Machine::INVALID {
+    if w.size == Machine::INVALID {
         return false;
     }
-    seen_at(c, s, own_cell(r)) < u.target.0
+    w.seen < u.target.0
 }
 
-fn update_step(m: Machine, r: Record) -> u32
-    ensures { λ s. ⌜ s ≡ updateStands m r .step ⌝ }
+fn update_step(r: Record, w: Window) -> u32
+    ensures { λ s. ⌜ s ≡ updateStandsBy r w .step ⌝ }
 {
     let u = r.change;
-    let c = m.calculator;
-    let closed = closed_at(c, u.window);
-    if missed(m, r) { closed } else { u.raised }
+    if missed(r, w) { w.closed } else { u.raised }
 }
 
-pub fn update_stands(m: Machine, r: Record) -> Place
-    ensures { λ p. ⌜ p ≡ updateStands m r ⌝ }
+pub fn update_stands(r: Record, w: Window) -> Place
+    ensures { λ p. ⌜ p ≡ updateStandsBy r w ⌝ }
 {
     let u = r.change;
     Place {
-        step: update_step(m, r),
+        step: update_step(r, w),
         rank: 1,
         tie: u.raised,
         read: 0,
@@ -251,46 +224,42 @@ pub fn after_stands(p: Place, read: u32) -> Place
     }
 }
 
-pub fn finder_stands(m: Machine, found: Content, read: u32) -> Place
-    ensures { λ p. ⌜ p ≡ finderStands m found read ⌝ }
+// Where the update that was found stands, is p.
+pub fn finder_stands(found: Content, p: Place, read: u32) -> Place
+    ensures { λ q. ⌜ q ≡ finderStandsBy found p read ⌝ }
 {
     match found {
         Content::Empty => at_read(read),
-        Content::Live(d) => after_stands(update_stands(m, record_at(m, d.op)), read),
-        Content::Marked(_, d) => after_stands(update_stands(m, record_at(m, d.op)), read),
+        Content::Live(_) => after_stands(p, read),
+        Content::Marked(_, _) => after_stands(p, read),
     }
 }
 
-fn set_stands(m: Machine, r: Record) -> Place
-    ensures { λ p. ⌜ p ≡ setStands m r ⌝ }
+// Where the deciding update stands, is p.
+fn set_stands(r: Record, p: Place) -> Place
+    ensures { λ q. ⌜ q ≡ setStandsBy r p ⌝ }
 {
     if was_raised(r) {
-        update_stands(m, r)
+        p
     } else {
         let l = r.look;
         let found = l.found;
-        finder_stands(m, found, l.read)
+        finder_stands(found, p, l.read)
     }
 }
 
-fn stands(m: Machine, call: Call, r: Record) -> Place
-    ensures { λ p. ⌜ p ≡ stands m call r ⌝ }
+// The deciding update stands at p, and the snapshot that the operation took its answer from closed at the step.
+pub fn stands(r: Record, p: Place, closed: u32) -> Place
+    ensures { λ q. ⌜ q ≡ standsBy (r .asked .call) r p closed ⌝ }
 {
-    match call {
-        Call::Insert => set_stands(m, r),
-        Call::Delete => set_stands(m, r),
-        Call::Contains => set_stands(m, r),
-        Call::Size => size_stands(m, r),
-    }
-}
-
-pub fn place_of(m: Machine, o: OpId) -> Place
-    ensures { λ p. ⌜ p ≡ placeOf m (o .0) ⌝ }
-{
-    let r = record_at(m, o);
     let a = r.asked;
     let call = a.call;
-    stands(m, call, r)
+    match call {
+        Call::Insert => set_stands(r, p),
+        Call::Delete => set_stands(r, p),
+        Call::Contains => set_stands(r, p),
+        Call::Size => size_stands(r, closed),
+    }
 }
 
 // ---- The number that orders the log.

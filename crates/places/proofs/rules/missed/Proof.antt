@@ -7,8 +7,5 @@ pub missed-spec : {M : Type 1} → statement M
 missed-spec =
     tie.close (tie.spec
     (λ c. simp (eq-eqb _ _ (c .if1 .taken)))
-    (λ c κs. search needs)
-    (λ c. simp (ne-eqb _ _ (c .before .before .before .if1 .left), eq-eqb _ _ (rw (c .before .size-at .ensures) at (c .if2 .taken))))
-    (λ c κs. search needs)
-    (λ c κs. search needs)
-    (λ c. simp (c .before .seen-at .ensures, c .before .before .own-cell .ensures, ne-eqb _ _ (c .before .before .before .before .before .before .if1 .left), ne-eqb _ _ (rw (c .before .before .before .before .size-at .ensures) at (c .before .before .before .if2 .left)))))
+    (λ c. simp (ne-eqb _ _ (c .before .before .if1 .left), eq-eqb _ _ (c .if2 .taken)))
+    (λ c. simp (ne-eqb _ _ (c .before .before .before .before .if1 .left), ne-eqb _ _ (c .before .before .if2 .left))))

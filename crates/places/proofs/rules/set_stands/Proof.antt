@@ -7,6 +7,5 @@ set-stands-spec =
     tie.close (tie.spec
     (λ c κs. search needs)
     (λ c κs. search needs)
-    (λ c κs. search needs)
-    (λ c. simp (c .update-stands .ensures, ← c .before .before .was-raised .ensures, c .before .if1 .taken))
+    (λ c. simp (← c .before .was-raised .ensures, c .if1 .taken))
     (λ c. simp (c .finder-stands .ensures, ← c .before .before .before .was-raised .ensures, c .before .before .if1 .left)))

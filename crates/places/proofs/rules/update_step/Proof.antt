@@ -6,6 +6,5 @@ pub update-step-spec : {M : Type 1} → statement M
 update-step-spec =
     tie.close (tie.spec
     (λ c κs. search needs)
-    (λ c κs. search needs)
-    (λ c. simp (c .before .before .closed-at .ensures, ← c .before .missed .ensures, c .if1 .taken))
+    (λ c. simp (← c .before .missed .ensures, c .if1 .taken))
     (λ c. simp (← c .before .missed .ensures, c .if1 .left)))
