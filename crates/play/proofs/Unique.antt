@@ -1,10 +1,15 @@
--- Two answers of `run` that meet its promise are equal, and so are the buffers afterwards.
+-- Two answers that meet a promise are equal, and so are the buffers afterwards: of `run`, of `hand_back` and of `lacks_room`.
 use mathlib.Core.Path.{_≡_, sym, _∙_}
 use mathlib.Core.List.{List}
 use Prim.Native.Nat.{ℕ}
+use mathlib.Core.Bool.{Bool}
+use lib.ListN.{take}
 use lib.Seq.{sets}
+use Rattle.figures.specs.declared.Machine.{Machine}
+use Rattle.figures.specs.Places.{logOf}
+use Rattle.places.specs.Written.{numbersOf}
 use Rattle.play.specs.declared.Told.{Told}
-use Rattle.play.specs.Run.{toldOf, resultsOf, entriesOf, numberOf, when}
+use Rattle.play.specs.Run.{toldOf, resultsOf, entriesOf, numberOf, when, foursOf, lacks, lackNumber, handedTold}
 
 -- one law: what is equal to a definition is equal
 once : {A : Type 0} {a b d : A} → a ≡ d → b ≡ d → a ≡ b
@@ -19,3 +24,17 @@ module _ (f : List ℕ) (results log : ℕ) where
 
   pub log-once : (l : List ℕ) {r s : List ℕ} → r ≡ sets l 0 (when (numberOf f results log) (entriesOf f)) → s ≡ sets l 0 (when (numberOf f results log) (entriesOf f)) → r ≡ s
   log-once l = once
+
+module _ (n results log : ℕ) where
+  pub lacks-room-once : {r s : Bool} → r ≡ lacks n results log → s ≡ lacks n results log → r ≡ s
+  lacks-room-once = once
+
+  module _ (m : Machine) where
+    pub hand-back-once : {r s : Told} → r ≡ handedTold m n results log → s ≡ handedTold m n results log → r ≡ s
+    hand-back-once = once
+
+    pub handed-results-once : (l : List ℕ) {r s : List ℕ} → r ≡ sets l 0 (when (lackNumber n results log) (foursOf (take n (m .records)))) → s ≡ sets l 0 (when (lackNumber n results log) (foursOf (take n (m .records)))) → r ≡ s
+    handed-results-once l = once
+
+    pub handed-log-once : (l : List ℕ) {r s : List ℕ} → r ≡ sets l 0 (when (lackNumber n results log) (numbersOf (logOf m n))) → s ≡ sets l 0 (when (lackNumber n results log) (numbersOf (logOf m n))) → r ≡ s
+    handed-log-once l = once

@@ -7,6 +7,7 @@ use lib.Dec.{eqb, ltb}
 use Rattle.figures.specs.declared.Outcome.{Outcome}
 use Rattle.figures.specs.declared.Record.{Record}
 use Rattle.figures.specs.declared.Machine.{Machine}
+use Rattle.figures.specs.Limits.{mostOperations}
 use Rattle.figures.specs.Start.{startOf}
 use Rattle.figures.specs.Step.{runOf}
 use Rattle.figures.specs.Places.{logOf}
@@ -55,15 +56,19 @@ numberOf f results log = cond (eqb (readOf f .number) 0) (cond (tooSmall f resul
 abbrev pub refused : ℕ → ℕ → Told
 refused n p = record { number = n; place = p; entries = 0; idle = 0; snapshots = 0 }
 
-abbrev pub ran : List ℕ → Told
-ran f =
+-- what a machine has done with its first n operations
+abbrev pub tells : Machine → ℕ → Told
+tells m n =
     record {
       number = 0;
       place = 0;
-      entries = length (logOf (machineOf f) (countOf f));
-      idle = machineOf f .idle;
-      snapshots = machineOf f .calculator .current .0;
+      entries = length (logOf m n);
+      idle = m .idle;
+      snapshots = m .calculator .current .0;
     }
+
+abbrev pub ran : List ℕ → Told
+ran f = tells (machineOf f) (countOf f)
 
 -- with so much room for results and for the log
 abbrev pub toldOf : List ℕ → ℕ → ℕ → Told
@@ -72,5 +77,17 @@ toldOf f results log =
     (refused (readOf f .number) (readOf f .place))
 
 -- what is written: nothing after a refusal
-abbrev pub when : ℕ → List ℕ → List ℕ
+abbrev pub when : {A : Type 0} → ℕ → List A → List A
 when number values = cond (eqb number 0) values []
+
+-- ---- What any machine hands back of its first n operations, with so much room for results and for the log.
+
+-- refusal 11: more operations than a run can have, or a buffer that has not 4 numbers per operation (for results) or 2 (for the log)
+abbrev pub lacks : ℕ → ℕ → ℕ → Bool
+lacks n results log = ltb mostOperations n || (ltb results (4 * n) || ltb log (2 * n))
+
+abbrev pub lackNumber : ℕ → ℕ → ℕ → ℕ
+lackNumber n results log = cond (lacks n results log) 11 0
+
+abbrev pub handedTold : Machine → ℕ → ℕ → ℕ → Told
+handedTold m n results log = cond (lacks n results log) (refused 11 0) (tells m n)

@@ -1,6 +1,6 @@
 use Prim.Native.Nat.{_+_, _-_, _*_, _≤_}
 use mathlib.Core.Path.{_≡_, refl, sym, ap, _∙_}
-use lib.ListN.{length, take, drop, length-set, length-map}
+use lib.ListN.{length, take, drop, length-set}
 use lib.Seq.{sets}
 use Rattle.play.specs.Run.{foursOf}
 use Rattle.play.proofs.Results.{fours-on, fours-end}
@@ -8,17 +8,15 @@ use native.Mathlib.Omega.{arith}
 use borrow.Author.Needs.{needs}
 use Rattle.play.proofs.write_results.Statement.{statement}
 use Rattle.play.proofs.write_results.Tie as tie
-use Rattle.play.proofs.write_results.Reads as reads
-use Rattle.play.proofs.write_results.Lts as lts
 
 abbrev Inv-loop : tie.InvT-loop
-Inv-loop operations results₀ m i₀ results i =
+Inv-loop operations results₀ records i₀ results i =
     (i ≤ operations)
     × (length results ≡ length results₀)
-    × (sets results (4 * i) (foursOf (drop i (take operations (m .records)))) ≡ sets results₀ 0 (foursOf (take operations (m .records))))
+    × (sets results (4 * i) (foursOf (drop i (take operations records))) ≡ sets results₀ 0 (foursOf (take operations records)))
 
 abbrev μ-loop : tie.MeasureT-loop
-μ-loop operations results₀ m i₀ results i = operations - i
+μ-loop operations results₀ records i₀ results i = operations - i
 
 loop-holds : tie.Need-loop-holds Inv-loop μ-loop
 loop-holds c = (omega arith, refl, refl)
@@ -26,8 +24,8 @@ loop-holds c = (omega arith, refl, refl)
 mul-r : tie.Need-mul-r Inv-loop μ-loop
 mul-r c = search needs
 
-element-copy-out-r : tie.Need-element-copy-out-r Inv-loop μ-loop
-element-copy-out-r c = search needs
+array-copy-out-r : tie.Need-array-copy-out-r Inv-loop μ-loop
+array-copy-out-r c = search needs
 
 mul-at : tie.Need-mul-at Inv-loop μ-loop
 mul-at c = search needs
@@ -75,8 +73,8 @@ loop-again : tie.Need-loop-again Inv-loop μ-loop
 loop-again c =
     let l = c .before .before .before .loop in
     let a = c .before .before .before .before .args in
-    let n : length (a .t1 .records) ≡ 64 = simp length-map at (c .before .before .before .before .good .0 .1 .1 .1 .1 .1 .1 .1 .1 .1 .0 .1 .0 .1) in
-    (omega arith, simp length-set (omega arith), sym (fours-on (a .t1 .records) (l .results) (c .before .before .loop-test .taken) (omega (arith, c .before .before .before .before .pre .0))) ∙ l .inv .2)
+    let n : length (a .t1) ≡ 64 = (c .before .before .before .before .good .0 .1 .0 .1) in
+    (omega arith, simp length-set (omega arith), sym (fours-on (a .t1) (l .results) (c .before .before .loop-test .taken) (omega (arith, c .before .before .before .before .pre .0))) ∙ l .inv .2)
 
 same-length : tie.Need-same-length Inv-loop μ-loop
 same-length c = c .before .loop .inv .1
@@ -84,9 +82,9 @@ same-length c = c .before .loop .inv .1
 returns : tie.Need-returns Inv-loop μ-loop
 returns c =
     let a = c .before .before .args in
-    let n : length (a .t1 .records) ≡ 64 = simp length-map at (c .before .before .good .0 .1 .1 .1 .1 .1 .1 .1 .1 .1 .0 .1 .0 .1) in
+    let n : length (a .t1) ≡ 64 = (c .before .before .good .0 .1 .0 .1) in
     let e : c .before .loop .i ≡ a .operations = omega (arith, c .before .loop .inv .0, c .loop-test .left) in
-    sym (fours-end (a .t1 .records) (c .before .loop .results) e (omega (arith, c .before .before .pre .0))) ∙ c .before .loop .inv .2
+    sym (fours-end (a .t1) (c .before .loop .results) e (omega (arith, c .before .before .pre .0))) ∙ c .before .loop .inv .2
 
 pub write-results-spec : {M : Type 1} → statement M
 write-results-spec =
@@ -96,7 +94,7 @@ write-results-spec =
     μ-loop
     loop-holds
     mul-r
-    element-copy-out-r
+    array-copy-out-r
     mul-at
     mul-results
     slice-write-results
