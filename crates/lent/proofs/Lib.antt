@@ -1,0 +1,12 @@
+pub mod Deeds
+pub mod Prefixes
+pub mod Few
+pub mod Tables
+pub mod Fronts
+pub mod Agree
+pub mod Again
+pub mod Shared
+pub mod Stepping
+pub mod Openings
+pub mod LentRun
+pub mod Unique
