@@ -1,4 +1,5 @@
-//! Finds the static library that `rt staticlib face` writes: in the folder named by PSZENORAD_LIB, else in the repository's target.
+//! Finds the static libraries that `rt staticlib face` and `rt staticlib lent` write: in the folder named by PSZENORAD_LIB, else in the
+//! repository's target.
 
 use std::path::PathBuf;
 
@@ -9,11 +10,13 @@ fn main() {
         Some(folder) => PathBuf::from(folder),
         None => beside.join("../../target/staticlib"),
     };
-    let library = folder.join("libface.a");
-    if !library.is_file() {
-        println!("cargo:warning={} is missing: run `rt staticlib face`", library.display());
-    }
-    println!("cargo:rerun-if-changed={}", library.display());
     println!("cargo:rustc-link-search=native={}", folder.display());
-    println!("cargo:rustc-link-lib=static=face");
+    for name in ["face", "lent"] {
+        let library = folder.join(format!("lib{name}.a"));
+        if !library.is_file() {
+            println!("cargo:warning={} is missing: run `rt staticlib {name}`", library.display());
+        }
+        println!("cargo:rerun-if-changed={}", library.display());
+        println!("cargo:rustc-link-lib=static={name}");
+    }
 }

@@ -1,4 +1,5 @@
-/* The proved library as C calls it; link target/staticlib/libface.a (x86-64 Linux). A lent buffer is a pointer and a count, and no
+/* The proved library as C calls it; link target/staticlib/libface.a, and liblent.a for
+   pszenorad_run_lent (x86-64 Linux). A lent buffer is a pointer and a count, and no
    pointer may be null, not even one with count 0. Numbers, refusals and buffers are those of document 01. */
 #ifndef PSZENORAD_H
 #define PSZENORAD_H

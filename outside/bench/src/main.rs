@@ -1,5 +1,5 @@
 //! `bench [--rounds N] [--dirty]`: the time of the largest runs and of refusals, ours and the plain implementation's, and the stack
-//! that a run touches. Plays are measured one by one, refusals by 64. With --dirty the buffers keep what the call before left in them.
+//! that a run touches; and ours over a lent table beside ours without. Plays are measured one by one, refusals by 64. With --dirty the buffers keep what the call before left in them.
 
 mod clock;
 mod stack;
@@ -7,6 +7,7 @@ mod stack;
 use compare::generate::{laid_out, run_of, MIXES};
 use compare::random::Random;
 use compare::side::{Ours, Plain, Side};
+use pszenorad::{Cells, Snapshot};
 use std::hint::black_box;
 use std::process::ExitCode;
 
@@ -93,15 +94,39 @@ fn busy(file: &[u8]) -> usize {
     plain::run(file, &mut results, &mut log).map_or(0, |t| steps - t.idle)
 }
 
+const NAMES: [&str; 6] = ["even", "updates", "inserts and deletes alone", "updates and sizes", "contains", "sizes alone"];
+
 fn largest_runs(asked: &Asked) {
-    let names = ["even", "updates", "inserts and deletes alone", "updates and sizes", "contains", "sizes alone"];
-    for (name, mix) in names.iter().zip(MIXES) {
+    for (name, mix) in NAMES.iter().zip(MIXES) {
         for keys in [1, 16] {
             let files = largest(mix, keys);
             let steps: usize = files.iter().map(|f| busy(f)).sum::<usize>() / files.len();
             let note = format!("{steps} steps not idle");
             print_row(&format!("play: {name}, keys {keys}"), &note, medians(asked, &files, 1));
         }
+    }
+}
+
+/// Nanoseconds for the run of a file over a lent table, and for the run that lends none.
+fn lent_and_not(file: &[u8], buffers: &mut Buffers, table: &mut [Snapshot]) -> (f64, f64) {
+    let begun = clock::nanoseconds();
+    black_box(pszenorad::run_lent(black_box(file), &mut buffers.results, &mut buffers.log, table).is_ok());
+    let between = clock::nanoseconds();
+    black_box(pszenorad::run(black_box(file), &mut buffers.results, &mut buffers.log).is_ok());
+    ((between - begun) as f64, (clock::nanoseconds() - between) as f64)
+}
+
+/// The run over a lent table beside the run without, by the step, idle steps among them.
+fn lent_runs(asked: &Asked) {
+    println!("{:<38}{:>12}{:>12}{:>8}", "nanoseconds a step, ours", "lent", "by value", "ratio");
+    let none = Snapshot { cells: [Cells { insertions: 0, deletions: 0 }; 8], collecting: false, size: 0 };
+    let (mut table, mut buffers) = ([none; 65], Buffers { results: [0; 256], log: [0; 128] });
+    for (name, mix) in NAMES.iter().zip(MIXES) {
+        let files = largest(mix, 16);
+        let pairs = (0..asked.rounds).map(|round| lent_and_not(&files[round % files.len()], &mut buffers, &mut table));
+        let (lent, not): (Vec<f64>, Vec<f64>) = pairs.unzip();
+        let (lent, not) = (median(lent) / 4096.0, median(not) / 4096.0);
+        println!("{:<38}{lent:>12.2}{not:>12.2}{:>8.2}", format!("lent: {name}, keys 16"), lent / not);
     }
 }
 
@@ -140,6 +165,7 @@ fn main() -> ExitCode {
     println!("{:<38}{:>12}{:>12}{:>8}", format!("median of {} measurements", asked.rounds), "ours us", "plain us", "ratio");
     largest_runs(&asked);
     refusals(&asked);
+    lent_runs(&asked);
     let file = &largest(MIXES[0], 16)[0];
     for (name, side) in [("ours", &Ours as &dyn Side), ("plain", &Plain)] {
         println!("stack that run touches, {name}: {} bytes", stack::touched(side, file));

@@ -104,13 +104,11 @@ fn ours_played(answer: Result<pszenorad::Totals, pszenorad::Refusal>) -> Playing
     }
 }
 
-#[cfg(feature = "lent")]
 fn lent(record: &Snapshot) -> pszenorad::Snapshot {
     let cells = record.cells.map(|[insertions, deletions]| pszenorad::Cells { insertions, deletions });
     pszenorad::Snapshot { cells, collecting: record.collecting, size: record.size }
 }
 
-#[cfg(feature = "lent")]
 fn handed_back(record: &pszenorad::Snapshot) -> Snapshot {
     let cells = record.cells.map(|c| [c.insertions, c.deletions]);
     Snapshot { cells, collecting: record.collecting, size: record.size }
@@ -147,16 +145,10 @@ impl Side for Ours {
         ours_played(pszenorad::run(file, results, log))
     }
 
-    #[cfg(feature = "lent")]
     fn run_lent(&self, file: &[u8], results: &mut [u32], log: &mut [u32], table: &mut [Snapshot]) -> Option<Playing> {
         let mut room: Vec<pszenorad::Snapshot> = table.iter().map(lent).collect();
         let answer = ours_played(pszenorad::run_lent(file, results, log, &mut room));
         table.iter_mut().zip(&room).for_each(|(record, back)| *record = handed_back(back));
         Some(answer)
-    }
-
-    #[cfg(not(feature = "lent"))]
-    fn run_lent(&self, _: &[u8], _: &mut [u32], _: &mut [u32], _: &mut [Snapshot]) -> Option<Playing> {
-        None
     }
 }

@@ -34,7 +34,6 @@ pub(crate) struct RunAnswer {
     pub snapshots: u32,
 }
 
-#[cfg(feature = "lent")]
 /// The two cells of one thread in a snapshot.
 #[repr(C)]
 #[derive(Debug, Clone, Copy, PartialEq, Eq)]
@@ -43,7 +42,6 @@ pub struct Cells {
     pub deletions: u32,
 }
 
-#[cfg(feature = "lent")]
 /// A record of the table of snapshots.
 #[repr(C)]
 #[derive(Debug, Clone, Copy, PartialEq, Eq)]
@@ -75,7 +73,6 @@ extern "C" {
         log: *mut u32,
         log_length: usize,
     ) -> RunAnswer;
-    #[cfg(feature = "lent")]
     fn pszenorad_run_lent(
         file: *const u8,
         length: usize,
@@ -116,7 +113,6 @@ pub(crate) fn run(file: &[u8], results: &mut [u32], log: &mut [u32]) -> RunAnswe
     unsafe { pszenorad_run(file.as_ptr(), file.len(), results.as_mut_ptr(), results.len(), log.as_mut_ptr(), log.len()) }
 }
 
-#[cfg(feature = "lent")]
 pub(crate) fn run_lent(file: &[u8], results: &mut [u32], log: &mut [u32], table: &mut [Snapshot]) -> RunAnswer {
     unsafe {
         pszenorad_run_lent(

@@ -1,6 +1,6 @@
 //! Schedules of atomic accesses over a set with the concurrent size of Sela and Petrank, played by a proved library.
 //!
-//! The work is done by `libface.a`, whose functions are proved to yield what document 01 says for every input; this crate only turns
+//! The work is done by `libface.a` and `liblent.a`, whose functions are proved to yield what document 01 says for every input; this crate only turns
 //! its numbers into Rust's types. The functions take no memory of their own: results and log go into buffers that the caller lends.
 //!
 //! ```
@@ -16,7 +16,6 @@
 mod boundary;
 mod refusal;
 
-#[cfg(feature = "lent")]
 pub use boundary::{Cells, Snapshot};
 pub use refusal::Refusal;
 
@@ -116,7 +115,6 @@ pub fn run(file: &[u8], results: &mut [u32], log: &mut [u32]) -> Result<Totals, 
     totals(boundary::run(file, results, log))
 }
 
-#[cfg(feature = "lent")]
 /// The same with the table of snapshots lent, which needs one record more than the file has size operations. Afterwards it holds
 /// the announced ones; the others stay.
 pub fn run_lent(file: &[u8], results: &mut [u32], log: &mut [u32], table: &mut [Snapshot]) -> Result<Totals, Refusal> {

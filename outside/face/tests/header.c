@@ -28,11 +28,9 @@ int main(void) {
     pszenorad_run_answer a = pszenorad_run(file, sizeof file, results, 8, log, 4);
     EXPECT(a.number == 0 && a.entries == 2 && a.idle == 0 && a.snapshots == 0);
     EXPECT(results[0] == 1 && results[4] == 0 && log[1] == 5 && log[3] == 8);
-#ifdef PSZENORAD_LENT
     pszenorad_snapshot table[1];
     a = pszenorad_run_lent(file, sizeof file, results, 8, log, 4, table, 1);
     EXPECT(a.number == 0 && table[0].size == PSZENORAD_INVALID && table[0].cells[7].deletions == PSZENORAD_INVALID);
-#endif
     EXPECT(pszenorad_run(file, sizeof file, results, 7, log, 4).number == 11);
     return 0;
 }
