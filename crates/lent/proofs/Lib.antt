@@ -4,8 +4,7 @@ pub mod Few
 pub mod Tables
 pub mod Fronts
 pub mod Agree
-pub mod Again
-pub mod Shared
+pub mod LentOn
 pub mod Stepping
 pub mod Openings
 pub mod LentRun

@@ -130,6 +130,8 @@ pub fn whole_of(m: Rest, table: [Snapshot; 65]) -> Machine
     }
 }
 
+// A whole schedule. The arrays stay in this function's frame, so each step is written out here: what the access is told is loaded, the
+// turn is taken by value, and what it gives is stored.
 pub fn play(machine: Machine, schedule: &[u8]) -> Machine
     ensures { λ r. ⌜ r ≡ runOf machine (now (schedule .entry)) ⌝ }
 {
@@ -162,6 +164,7 @@ pub fn play(machine: Machine, schedule: &[u8]) -> Machine
             m.records[e] = own_or_same(v, o, m.records[e]);
             let stood = v.local;
             m.locals[k] = stood;
+            // most accesses only read, and are done
             if !was_quiet(v) {
                 let c = effect_of(v, held, current, seen);
                 let g = snapshot_at(current);
@@ -183,6 +186,7 @@ pub fn play(machine: Machine, schedule: &[u8]) -> Machine
     whole_of(m, table)
 }
 
+// One step: the schedule of that thread alone.
 pub fn step(m: Machine, t: ThreadId) -> Machine
     ensures { λ r. ⌜ r ≡ stepOf m t ⌝ }
 {

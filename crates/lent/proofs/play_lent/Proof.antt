@@ -57,7 +57,7 @@ use Rattle.machine.specs.declared.Rest.{Rest}
 use Rattle.machine.specs.Parts.{wholeOf}
 use Rattle.machine.proofs.Rest as Q
 use Rattle.machine.proofs.Rest.Laws as Q′
-use Rattle.lent.proofs.Again.{LentAgain, lends-again, comes-back}
+use Rattle.lent.proofs.LentOn.{LentAgain, lends-again, comes-back}
 use Rattle.lent.proofs.step_lent as st
 use Rattle.lent.proofs.step_lent.Symbol as st-def
 use Rattle.lent.proofs.step_lent.Symbol.{name as #lent·step-lent}

@@ -67,8 +67,7 @@ use Rattle.lent.specs.declared.Opened.{Opened}
 use Rattle.lent.specs.Runs.{openedOf, firstOf}
 use Rattle.lent.proofs.Opened as S
 use Rattle.lent.proofs.Opened.Laws as S′
-use Rattle.lent.proofs.Again.{LentAgain, lends-again, comes-back}
-use Rattle.lent.proofs.Shared.{LentShared, lends-shared, shared-back}
+use Rattle.lent.proofs.LentOn.{LentAgain, LentShared, lends-again, comes-back, lends-shared, shared-back}
 use Rattle.lent.proofs.LentRun.{Promised, answerIn, resultsIn, logIn, promised}
 use Rattle.lent.proofs.opening as op
 use Rattle.lent.proofs.opening.Symbol as op-def

@@ -72,8 +72,7 @@ use Rattle.lending.proofs.exchange.Symbol.{name as #lending·exchange}
 use Rattle.lending.proofs.exchange.Met as exch-thm
 use Rattle.lent.specs.declared.Stepped.{Stepped}
 use Rattle.lent.specs.Steps.{lookedAt}
-use Rattle.lent.proofs.Again.{LentAgain, lends-again, comes-back}
-use Rattle.lent.proofs.Shared.{LentShared, lends-shared, shared-back}
+use Rattle.lent.proofs.LentOn.{LentAgain, LentShared, lends-again, comes-back, lends-shared, shared-back}
 use Rattle.lent.proofs.Stepped as S
 use Rattle.lent.proofs.Stepped.Laws as S′
 use Rattle.lent.proofs.looked_at as lk
