@@ -4,6 +4,7 @@ pub mod Few
 pub mod Tables
 pub mod Fronts
 pub mod Agree
+pub mod Announced
 pub mod LentOn
 pub mod Stepping
 pub mod Openings
