@@ -17,10 +17,7 @@ use Rattle.play.specs.Run.{resultsOf, entriesOf, numberOf, toldOf, refused, ran
 use Rattle.play.proofs.Decided.{is-written}
 use Rattle.lent.specs.Runs.{lentSmall, lentNumber, lentTold, recordsOf}
 use Rattle.lent.proofs.LentRun.{same-number, same-told}
-
--- one law: what is equal to a definition is equal
-once : {A : Type 0} {a b d : A} → a ≡ d → b ≡ d → a ≡ b
-once p q = p ∙ sym q
+use Rattle.calculator.proofs.Once.{once}
 
 module _ (f : List ℕ) (results log table : ℕ) where
   pub run-lent-once : {r s : Told} → r ≡ lentTold f results log table → s ≡ lentTold f results log table → r ≡ s

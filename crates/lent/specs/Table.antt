@@ -7,14 +7,12 @@ use Rattle.figures.specs.declared.Snapshot.{Snapshot}
 use Rattle.figures.specs.declared.Call.{Call}
 use Rattle.figures.specs.declared.Call.the-variants.{Insert, Delete, Contains, Size}
 use Rattle.figures.specs.declared.Machine.{Machine}
-use Rattle.figures.specs.Step.{withCalculator}
 use Rattle.figures.specs.Start.{callOf}
+use Rattle.machine.specs.Parts.{wholeOf, restOf}
 
 -- the machine whose snapshots are this list
 abbrev pub withTable : List Snapshot → Machine → Machine
-withTable table m =
-    let c = m .calculator in
-    withCalculator (record { counters = c .counters; current = c .current; snapshots = table; traces = c .traces }) m
+withTable table m = wholeOf (restOf m) table
 
 -- the announced records: record 0 to the current one
 abbrev pub announcedIn : Machine → List Snapshot

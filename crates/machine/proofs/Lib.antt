@@ -1,5 +1,7 @@
+pub mod Changes
 pub mod Together
 pub mod Turns
 pub mod Stored
+pub mod Schedules
 pub mod Once
 pub mod Answers

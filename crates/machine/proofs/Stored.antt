@@ -32,7 +32,8 @@ use Rattle.calculator.proofs.Beyond.{set-beyond, getD-beyond}
 use Rattle.machine.specs.declared.Rest.{Rest}
 use Rattle.machine.specs.declared.Turn.{Turn}
 use Rattle.machine.specs.declared.Effect.{Effect}
-use Rattle.machine.specs.Parts.{seenFrom, turnOf, effectOf, quiet, wholeOf, nextOf, tableOf, raisedRecord}
+use Rattle.machine.specs.Parts.{seenFrom, turnOf, effectOf, quiet, wholeOf}
+use Rattle.machine.proofs.Changes.{nextOf, tableOf, raisedRecord}
 use Rattle.machine.proofs.Together.{same}
 use Rattle.machine.proofs.Turns.{either-store, whole-turn, quiet-turn}
 

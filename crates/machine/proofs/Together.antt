@@ -25,7 +25,8 @@ use Rattle.figures.specs.declared.Record.{Record}
 use Rattle.figures.specs.declared.Machine.{Machine}
 use Rattle.figures.specs.Figure4.{more, windowOf, blockOf, setCount}
 use Rattle.figures.specs.Step.{noRecord, noSlot, noLocal, recordAt, localAt, withSeen, answered, counted, raisedAt, exchangedAt, withLook, withUsed, does, goesOn, ticked}
-use Rattle.machine.specs.Parts.{answeredBy, goesBy, raisedRecord, actedBy}
+use Rattle.machine.specs.Parts.{answeredBy, goesBy}
+use Rattle.machine.proofs.Changes.{raisedRecord, actedBy}
 
 module _ {A : Type 0} (d : A) where
   -- a store of what is there changes nothing

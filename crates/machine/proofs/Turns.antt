@@ -60,7 +60,8 @@ use Rattle.accesses.specs.Asks.{noRaise, raiseOf, asksOf, changesOf}
 use Rattle.machine.specs.declared.Rest.{Rest}
 use Rattle.machine.specs.declared.Turn.{Turn}
 use Rattle.machine.specs.declared.Effect.{Effect}
-use Rattle.machine.specs.Parts.{updatedBy, sizedBy, calculatedBy, seenFrom, turnOf, effectOf, quiet, heldBy, raisedOp, raisedRecord, stoodBy, recordedBy, wholeOf, nextOf, tableOf}
+use Rattle.machine.specs.Parts.{seenFrom, turnOf, effectOf, quiet, heldBy, raisedOp, stoodBy, recordedBy, wholeOf}
+use Rattle.machine.proofs.Changes.{updatedBy, sizedBy, calculatedBy, raisedRecord, nextOf, tableOf}
 use Rattle.machine.proofs.Together.{same, together}
 
 -- ---- Defaults. Which one a read past the end gives does not matter to what is the same of both, nor to a store there.

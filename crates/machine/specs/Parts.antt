@@ -1,15 +1,13 @@
--- What an access changes, part by part: of its operation's record, of its thread, of its slot and of the calculator. The
--- contracts of the functions that make these changes cite them; that they make up a step is proved in proofs/Together.antt and
--- proofs/Turns.antt.
+-- What an access changes, part by part: of its operation's record, of its thread, of its slot, and what else it asks for. The
+-- contracts of the functions that make these changes cite them; that they make up a step is proved in proofs/Together.antt,
+-- proofs/Turns.antt and proofs/Stored.antt.
 use Prim.Native.Nat.{ℕ}
 use mathlib.Core.Bool.{Bool, true, false}
 use mathlib.Core.List.{List}
-use lib.ListN.{getD, set}
 use Rattle.terms.specs.declared.ThreadId.{ThreadId}
 use Rattle.terms.specs.declared.OpId.{OpId}
 use Rattle.terms.specs.declared.SnapshotId.{SnapshotId}
 use Rattle.figures.specs.declared.Counts.{Counts}
-use Rattle.figures.specs.declared.Calculator.{Calculator}
 use Rattle.figures.specs.declared.UpdateDeed.{UpdateDeed}
 use Rattle.figures.specs.declared.UpdateDeed.the-variants.{Reads, Raises, Forwards}
 use Rattle.figures.specs.declared.SizeDeed.{SizeDeed}
@@ -28,10 +26,10 @@ use Rattle.figures.specs.declared.Point.{Point}
 use Rattle.figures.specs.declared.Sight.{Sight}
 use Rattle.figures.specs.declared.Snapshot.{Snapshot}
 use Rattle.figures.specs.declared.Machine.{Machine}
-use Rattle.figures.specs.Figure4.{more, blockOf, countAt, setCount, noTrace, raised, written, announced, lowered, fixed, windowOf}
-use Rattle.figures.specs.Figure3.{cellOf, looksAtCell}
-use Rattle.figures.specs.Step.{noRecord, noSlot, noLocal, withLook, withUsed, counted, answered, exchangedAt, raisedAt, withSeen, standing, finished, standsAt, accessOf}
-use Rattle.calculator.specs.Exchanges.{absent, sightIn, raisedIn, exchangedOf, tracedOf, currentOf}
+use Rattle.figures.specs.Figure4.{blockOf, countAt, setCount, raised}
+use Rattle.figures.specs.Figure3.{looksAtCell}
+use Rattle.figures.specs.Step.{withLook, withUsed, counted, answered, exchangedAt, withSeen, standing, finished, standsAt, accessOf}
+use Rattle.calculator.specs.Exchanges.{sightIn}
 use Rattle.accesses.specs.Asks.{raiseOf, asksOf, changesOf}
 use Rattle.machine.specs.declared.Turn.{Turn}
 use Rattle.machine.specs.declared.Effect.{Effect}
@@ -102,37 +100,8 @@ heldBy Unlinks c = Empty
 heldBy (Updates d u) c = c
 heldBy (Sizes d) c = c
 
--- ---- Of the calculator, by the deed.
+-- ---- Of another operation's record: the update that is raised, by whichever thread; 255 where none is.
 
-abbrev pub updatedBy : UpdateDeed → Update → Calculator → Calculator
-updatedBy Reads u c = c
-updatedBy Raises u c = raised (cellOf u) (u .node .note .1 .0) c
-updatedBy (Forwards n) u c = written n (cellOf u) (u .node .note .1 .0) c
-
-abbrev pub sizedBy : SizeDeed → ℕ → List Counts → Calculator → Calculator
-sizedBy Looks step seen c = c
-sizedBy Announces step seen c = announced step c
-sizedBy (Collects n j v) step seen c = written n j v c
-sizedBy (Lowers n) step seen c = lowered n step c
-sizedBy (Keeps j v) step seen c = c
-sizedBy (Fixes n v) step seen c = fixed n v seen c
-sizedBy (Shares n) step seen c = c
-
-abbrev pub calculatedBy : Deed → ℕ → List Counts → Calculator → Calculator
-calculatedBy Rests step seen c = c
-calculatedBy (Finds f) step seen c = c
-calculatedBy (Links n) step seen c = c
-calculatedBy (Marks n d) step seen c = c
-calculatedBy Unlinks step seen c = c
-calculatedBy (Updates d u) step seen c = updatedBy d u c
-calculatedBy (Sizes d) step seen c = sizedBy d step seen c
-
--- ---- Of another operation's record: an update that is raised, by whichever thread, has its step.
-
-abbrev pub raisedRecord : ℕ → SnapshotId → OpId → List Record → List Record
-raisedRecord step w o rs = set rs (o .0) (raisedAt step w (getD rs (o .0) noRecord))
-
--- the operation that is raised; 255 where none is
 abbrev pub raisesOp : UpdateDeed → Update → OpId
 raisesOp Reads u = record { 0 = 255 }
 raisesOp Raises u = u .node .op
@@ -147,23 +116,7 @@ raisedOp Unlinks = record { 0 = 255 }
 raisedOp (Updates d u) = raisesOp d u
 raisedOp (Sizes d) = record { 0 = 255 }
 
--- ---- Together, by the deed: the machine after an access that looked up slot `key`, with these deed and next.
-
-abbrev pub actedBy : Deed → Next → ℕ → ℕ → OpId → ℕ → Machine → Machine
-actedBy d x step t o key m =
-    let l = getD (m .locals) t (noLocal) in
-    record {
-      threads = m .threads;
-      keys = m .keys;
-      clock = step;
-      idle = m .idle;
-      calculator = calculatedBy d step (l .seen) (m .calculator);
-      slots = set (m .slots) key (record { content = heldBy d (getD (m .slots) key noSlot .content) });
-      locals = set (m .locals) t (stoodBy d x l);
-      records = raisedRecord step (windowOf (m .calculator)) (raisedOp d) (set (m .records) (o .0) (recordedBy step d x (getD (m .records) (o .0) noRecord)));
-    }
-
--- ---- The same by what is asked of memory. A turn: what an access that stands at p gives, from the small parts that it is told.
+-- ---- A turn: what an access that stands at p gives, from the small parts that it is told.
 
 -- what an access of thread t sees
 abbrev pub seenFrom : ThreadId → Point → List Counts → SnapshotId → Snapshot → Sight
@@ -248,24 +201,3 @@ restOf m =
       locals = m .locals;
       records = m .records;
     }
-
--- both after a turn of thread t in operation o on key `key` that looked at this record while `window` was being collected
-abbrev pub nextOf : Turn → Effect → ThreadId → OpId → ℕ → Snapshot → SnapshotId → Rest → Rest
-nextOf u v t o key looked window m =
-    let step = more (m .clock) in
-    let n = v .changed .0 in
-    record {
-      threads = m .threads;
-      keys = m .keys;
-      clock = step;
-      idle = m .idle;
-      counters = raisedIn (m .counters) (v .raise .cell) (v .raise .target);
-      current = currentOf (v .exchange) (m .current);
-      traces = set (m .traces) n (tracedOf (v .exchange) looked step (getD (m .locals) (t .0) noLocal .seen) (getD (m .traces) n noTrace));
-      slots = set (m .slots) key (record { content = v .held });
-      locals = set (m .locals) (t .0) (u .local);
-      records = raisedRecord step window (v .raised) (set (m .records) (o .0) (u .own));
-    }
-
-abbrev pub tableOf : Effect → List Snapshot → List Snapshot
-tableOf v table = set table (v .changed .0) (exchangedOf (v .exchange) (getD table (v .changed .0) absent))

@@ -18,10 +18,7 @@ use Rattle.figures.specs.Places.{returned, wasRaised, ownCell, afterStands, num
 use Rattle.places.specs.declared.rules.Window.{Window}
 use Rattle.places.specs.Parts.{windowOf, noWindow, deciderOf, sizeStandsBy, missedBy, updateStandsBy, finderStandsBy, standsBy}
 use Rattle.places.specs.Written.{numbersOf, writtenOf}
-
--- one law, over what is promised
-once : {A : Type 0} {x y promised : A} → x ≡ promised → y ≡ promised → x ≡ y
-once e e′ = e ∙ sym e′
+use Rattle.calculator.proofs.Once.{once}
 
 pub window-of-once : (s : Snapshot) (t : Trace) (j : Cell) (w w′ : Window) → w ≡ windowOf s t j → w′ ≡ windowOf s t j → w ≡ w′
 window-of-once s t j w w′ = once

@@ -10,10 +10,7 @@ use Rattle.figures.specs.Places.{logOf}
 use Rattle.places.specs.Written.{numbersOf}
 use Rattle.play.specs.declared.Told.{Told}
 use Rattle.play.specs.Run.{toldOf, resultsOf, entriesOf, numberOf, when, foursOf, lacks, lackNumber, handedTold}
-
--- one law: what is equal to a definition is equal
-once : {A : Type 0} {a b d : A} → a ≡ d → b ≡ d → a ≡ b
-once p q = p ∙ sym q
+use Rattle.calculator.proofs.Once.{once}
 
 module _ (f : List ℕ) (results log : ℕ) where
   pub run-once : {r s : Told} → r ≡ toldOf f results log → s ≡ toldOf f results log → r ≡ s

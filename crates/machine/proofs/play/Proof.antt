@@ -1,28 +1,19 @@
 -- `play` meets its contract: what is left of the schedule, run from the machine reached, gives what the whole gives.
-use Prim.Native.Nat.{ℕ, _≤_, _<_, _-_, _+_}
+use Prim.Native.Nat.{_≤_, _-_, _+_}
 use native.Mathlib.Omega.{arith}
-use native.Mathlib.Numerals.{add-one}
 use mathlib.Core.Path.{_≡_, refl, sym, ap, subst, _∙_}
 use mathlib.Core.Bool.{Bool, true, false, not}
 use mathlib.Core.List.{List}
-use lib.ListN.{length, drop, getD, length-map, length-set, drop-of-length-le}
-use lib.Seq.{drop-cons}
+use lib.ListN.{length, drop, getD, length-map, length-set}
 use borrow.Author.Needs.{needs}
 use Rattle.figures.specs.declared.Machine.{Machine}
-use Rattle.figures.specs.Step.{stepOf, runOf}
+use Rattle.figures.specs.Step.{runOf}
 use Rattle.machine.specs.declared.Rest.{Rest}
 use Rattle.machine.specs.Parts.{wholeOf}
 use Rattle.machine.proofs.Stored.{Long, snapshot-read, exchange-made, through, glances, idles}
+use Rattle.machine.proofs.Schedules.{run-more, run-none}
 use Rattle.machine.proofs.play.Statement.{statement}
 use Rattle.machine.proofs.play.Tie as tie
-
-pub run-more : (m : Machine) (s : List ℕ) (i : ℕ) → i < length s → runOf m (drop i s) ≡ runOf (stepOf m (record { 0 = getD s i 0 })) (drop (i + 1) s)
-unfolding runOf
-run-more m s i h = rw (drop-cons s i 0 h, add-one)
-
-pub run-none : (m : Machine) (s : List ℕ) (i : ℕ) → length s ≤ i → runOf m (drop i s) ≡ m
-unfolding runOf
-run-none m s i h = rw (drop-of-length-le s {i = i} h)
 
 was-so : (b : Bool) → not b ≡ false → b ≡ true
 was-so true e = refl
