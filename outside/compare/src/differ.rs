@@ -92,7 +92,11 @@ fn check_buffers(file: &[u8], read: &Reading, answer: &Playing, results: &[u32],
 
 fn record(i: usize) -> Snapshot {
     let cell = |t: usize, k: usize| pattern(100 * i + 2 * t + k);
-    Snapshot { cells: std::array::from_fn(|t| [cell(t, 0), cell(t, 1)]), collecting: i % 2 == 0, size: pattern(100 * i + 50) }
+    Snapshot {
+        cells: std::array::from_fn(|t| [cell(t, 0), cell(t, 1)]),
+        collecting: i.is_multiple_of(2),
+        size: pattern(100 * i + 50),
+    }
 }
 
 fn compare_lent(ours: &dyn Side, plain: &dyn Side, file: &[u8], read: &Reading, random: &mut Random) -> Verdict<Option<Playing>> {

@@ -85,7 +85,7 @@ fn work(asked: &Asked, ours: &dyn Side, next: &AtomicU64, stop: &AtomicBool) -> 
         }
         let case = generate::case(asked.seed, number);
         let text = match &asked.showrun {
-            Some(program) if number / 8 % asked.every == 0 => {
+            Some(program) if (number / 8).is_multiple_of(asked.every) => {
                 tally.texts += 1;
                 text::compare(program, &case.file)
             }

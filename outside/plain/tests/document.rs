@@ -13,7 +13,9 @@ fn file(keys: u8, operations: &[&[u8]], schedule: &[(u8, usize)]) -> Vec<u8> {
 }
 
 /// Answers, own steps, log as (operation, step), totals.
-fn play(file: &[u8]) -> (Vec<u32>, Vec<u32>, Vec<(u32, u32)>, Totals) {
+type Played = (Vec<u32>, Vec<u32>, Vec<(u32, u32)>, Totals);
+
+fn play(file: &[u8]) -> Played {
     let n = read(file).unwrap().operations;
     let (mut results, mut log) = (vec![7; 4 * n], vec![7; 2 * n]);
     let totals = run(file, &mut results, &mut log).unwrap();

@@ -10,10 +10,10 @@ abbrev μ-loop : tie.MeasureT-loop
 μ-loop letter₀ letter = 74 - letter
 
 abbrev Inv-loop2 : tie.InvT-loop2
-Inv-loop2 letter n₀ n = n ≤ 300
+Inv-loop2 letter n₀ n = n ≤ 1000
 
 abbrev μ-loop2 : tie.MeasureT-loop2
-μ-loop2 letter n₀ n = 300 - n
+μ-loop2 letter n₀ n = 1000 - n
 
 loop-holds : tie.Need-loop-holds Inv-loop μ-loop Inv-loop2 μ-loop2
 loop-holds c = search needs
@@ -48,6 +48,9 @@ loop2-again c = search needs
 returns : tie.Need-returns Inv-loop μ-loop Inv-loop2 μ-loop2
 returns c = search needs
 
+returns-2 : tie.Need-returns-2 Inv-loop μ-loop Inv-loop2 μ-loop2
+returns-2 c = search needs
+
 pub main-spec : {M : Type 1} → statement M
 main-spec =
     tie.close
@@ -66,4 +69,5 @@ main-spec =
     add-n
     loop2-less
     loop2-again
-    returns)
+    returns
+    returns-2)
