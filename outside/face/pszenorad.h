@@ -14,6 +14,23 @@ extern "C" {
 
 #define PSZENORAD_INVALID UINT32_C(4294967295)
 
+/* The numbers of the refusals by name, in the answers' `number`; a place is 0 unless told otherwise here. */
+enum pszenorad_refusal {
+    PSZENORAD_ACCEPTED = 0,
+    PSZENORAD_NO_HEAD = 1,               /* fewer than 2 bytes */
+    PSZENORAD_THREADS = 2,               /* there are 0 threads or more than 8 */
+    PSZENORAD_KEYS = 3,                  /* there are 0 keys or more than 16 */
+    PSZENORAD_TABLE_CUT_SHORT = 4,       /* the contents table is cut short */
+    PSZENORAD_OFFSET = 5,                /* an entry's offset is not the sum required; place: the entry's */
+    PSZENORAD_TOO_MANY_OPERATIONS = 6,   /* more than 64 operations */
+    PSZENORAD_TOO_MANY_STEPS = 7,        /* more than 4,096 steps */
+    PSZENORAD_LENGTH = 8,                /* the file does not end with the schedule */
+    PSZENORAD_OPERATION = 9,             /* an operation byte is not allowed; place: the byte's */
+    PSZENORAD_STEP = 10,                 /* a schedule byte names no thread; place: the byte's */
+    PSZENORAD_TOO_SMALL = 11,            /* a lent output is too small */
+    PSZENORAD_LISTS = 12                 /* the writer's lists disagree */
+};
+
 /* number is 0 where the file is accepted; else number and place of the refusal, and every other number 0 */
 typedef struct {
     uint32_t number;

@@ -1,17 +1,13 @@
 // The code of figure 3, the set over the calculator: one function per access, named after it. What each must yield is defined in the
-// crate `figures`. An access is told what it sees and says where the thread goes on and what it changes (`access`); what it asks of
-// lent memory is told before anything is read (`asks`, `raise_of`).
-use calculator::exchange::Exchange;
-use calculator::exchange::size_asks;
-use calculator::exchange::size_changes;
-use calculator::exchange::update_asks;
+// crate `figures`. What an access asks of the counters and of the table of snapshots is told before anything is read (`request`); it is
+// told what it sees, and says where the thread goes on and what it changes (`access`).
+use calculator::figure4::THREADS;
 use calculator::figure4::one_more;
 use calculator::figure5::size;
-use calculator::figure5::size_cell;
-use calculator::figure5::size_looks_at;
 use calculator::figure5::update;
-use calculator::figure5::update_looks_at;
-use calculator::figure6::first_cell;
+use calculator::request::Request;
+use calculator::request::size_request;
+use calculator::request::update_request;
 use figures::After;
 use figures::Call;
 use figures::Cell;
@@ -35,12 +31,13 @@ use terms::SnapshotId;
 use terms::Target;
 use terms::ThreadId;
 ghost use mathlib.Core.Path.{_≡_};
-ghost use Rattle.figures.specs.declared.After.the-variants.{ToMark, ToUnlink};
+ghost use Rattle.figures.specs.declared.After.the-variants.{ToMark, ToHelpUnlink, ToUnlink};
 ghost use Rattle.figures.specs.declared.Next.the-variants.{To};
-ghost use Rattle.figures.specs.Figure3.{insertion, deletion, nodeOf, isLive, isMarked, goesTo, containsFound, insertFound, deleteFound, found, readSlot, countInsertions, link, helpUnlink, countDeletions, mark, unlink, afterwards, updateNext, updating, sizeNext, sizing, entry, cellOf, looksAtCell, looksAtSnapshot};
+ghost use Rattle.figures.specs.Figure3.{insertion, deletion, nodeOf, isLive, isMarked, goesTo, containsFound, insertFound, deleteFound, found, readSlot, countInsertions, link, helpUnlink, countDeletions, mark, unlink, afterwards, updateNext, updating, sizeNext, sizing, entry, cellOf};
 ghost use Rattle.figures.specs.Step.{standsAt, accessOf};
-ghost use Rattle.calculator.specs.Exchanges.{updateAsks};
-ghost use Rattle.accesses.specs.Asks.{noRaise, updateRaises, raiseOf, asksOf, changesOf};
+ghost use Rattle.calculator.specs.declared.request.Request.the-variants.{Count};
+ghost use Rattle.calculator.specs.Requests.{updateRequest};
+ghost use Rattle.accesses.specs.Requests.{requestAt};
 
 fn insertion(n: Node) -> Update
     ensures { λ r. ⌜ r ≡ insertion n ⌝ }
@@ -129,6 +126,17 @@ fn contains_found(c: Content) -> Next
     }
 }
 
+// Lines 21 and 42: the deletion is raised before the marked node may be unlinked, so that no update is lost with it.
+fn raise_then_help(n: Node, d: Node) -> Next
+    ensures { λ r. ⌜ r ≡ Rattle.figures.specs.Figure3.update (deletion d) (ToHelpUnlink n d) ⌝ }
+{
+    let u = Update {
+        kind: Kind::Deletion,
+        node: d,
+    };
+    update_then(u, After::ToHelpUnlink(n, d))
+}
+
 // Insert, lines 16 to 22.
 fn insert_found(c: Content) -> Next
     ensures { λ r. ⌜ r ≡ insertFound c ⌝ }
@@ -136,11 +144,11 @@ fn insert_found(c: Content) -> Next
     match c {
         Content::Empty => to(Point::CountInsertions),
         Content::Live(n) => update_then(insertion(n), After::Answer(0)),
-        Content::Marked(n, d) => update_then(deletion(d), After::ToHelpUnlink(n, d)),
+        Content::Marked(n, d) => raise_then_help(n, d),
     }
 }
 
-// Lines 33 and 34: the insertion is helped before the node may be marked, so that no size counts a deletion without it.
+// Lines 34 and 36: the insertion is helped before the node may be marked, so that no size counts a deletion without it.
 fn help_then_mark(n: Node) -> Next
     ensures { λ r. ⌜ r ≡ Rattle.figures.specs.Figure3.update (insertion n) (ToMark n) ⌝ }
 {
@@ -301,7 +309,7 @@ fn size_next(x: SizeNext) -> Next
 }
 
 // Line 41: one access of compute.
-fn sizing(p: SizePoint, threads: u8, seen: [Counts; 8], s: Sight) -> Move
+fn sizing(p: SizePoint, threads: u8, seen: [Counts; THREADS], s: Sight) -> Move
     ensures { λ r. ⌜ r ≡ sizing p threads seen s ⌝ }
 {
     let v = size(p, threads, seen, s);
@@ -331,48 +339,6 @@ pub fn cell_of(u: Update) -> Cell
     Cell { thread: t, kind: k }
 }
 
-// The cell that an access of thread t looks at.
-pub fn looks_at_cell(t: ThreadId, p: Point) -> Cell
-    ensures { λ r. ⌜ r ≡ looksAtCell t p ⌝ }
-{
-    match p {
-        Point::Idle => first_cell(),
-        Point::ReadSlot => first_cell(),
-        Point::Updating(_, u, _) => cell_of(u),
-        Point::CountInsertions => Cell {
-            thread: t,
-            kind: Kind::Insertion,
-        },
-        Point::Link(_) => first_cell(),
-        Point::HelpUnlink(_, _) => first_cell(),
-        Point::CountDeletions(_) => Cell {
-            thread: t,
-            kind: Kind::Deletion,
-        },
-        Point::Mark(_, _) => first_cell(),
-        Point::Unlink(_, _) => first_cell(),
-        Point::Sizing(q) => size_cell(q),
-    }
-}
-
-// The snapshot that it looks at.
-pub fn looks_at_snapshot(p: Point) -> SnapshotId
-    ensures { λ r. ⌜ r ≡ looksAtSnapshot p ⌝ }
-{
-    match p {
-        Point::Idle => SnapshotId(0),
-        Point::ReadSlot => SnapshotId(0),
-        Point::Updating(q, _, _) => update_looks_at(q),
-        Point::CountInsertions => SnapshotId(0),
-        Point::Link(_) => SnapshotId(0),
-        Point::HelpUnlink(_, _) => SnapshotId(0),
-        Point::CountDeletions(_) => SnapshotId(0),
-        Point::Mark(_, _) => SnapshotId(0),
-        Point::Unlink(_, _) => SnapshotId(0),
-        Point::Sizing(q) => size_looks_at(q),
-    }
-}
-
 // Between operations a thread begins the next one.
 pub fn stands_at(p: Point, k: Call) -> Point
     ensures { λ r. ⌜ r ≡ standsAt p k ⌝ }
@@ -398,7 +364,7 @@ pub fn access(
     o: OpId,
     k: Call,
     threads: u8,
-    seen: [Counts; 8],
+    seen: [Counts; THREADS],
     s: Sight,
     c: Content,
 ) -> Move
@@ -418,99 +384,35 @@ pub fn access(
     }
 }
 
-// A counter to be raised, and to what.
-pub struct Raise {
-    pub cell: Cell,
-    pub target: Target,
-}
-
-// The counter of a thread that is not there: nothing is raised.
-fn no_raise() -> Raise
-    ensures { λ r. ⌜ r ≡ noRaise ⌝ }
+// Lines 22, 35 and 85: the thread's own counter of this kind.
+fn own_count(t: ThreadId, k: Kind) -> Request
+    ensures { λ r. ⌜ r ≡ Count (record { thread = t; kind = k }) ⌝ }
 {
-    let cell = Cell {
-        thread: ThreadId(255),
-        kind: Kind::Insertion,
-    };
-    Raise {
-        cell: cell,
-        target: Target(0),
-    }
+    Request::Count(Cell { thread: t, kind: k })
 }
 
-fn update_raises(p: UpdatePoint, u: Update) -> Raise
-    ensures { λ r. ⌜ r ≡ updateRaises p u ⌝ }
+fn updating_request(p: UpdatePoint, u: Update) -> Request
+    ensures { λ r. ⌜ r ≡ updateRequest p (cellOf u) (u .node .note .1) ⌝ }
 {
     let c = u.node.note.1;
-    let j = cell_of(u);
-    match p {
-        UpdatePoint::ReadCount => no_raise(),
-        UpdatePoint::RaiseCount => Raise { cell: j, target: c },
-        UpdatePoint::ReadCurrent => no_raise(),
-        UpdatePoint::ReadFlag(_) => no_raise(),
-        UpdatePoint::ReadAgain(_) => no_raise(),
-        UpdatePoint::ReadCell(_) => no_raise(),
-        UpdatePoint::Forward(_, _) => no_raise(),
-    }
+    update_request(p, cell_of(u), c)
 }
 
-// The counter that an access exchanges.
-pub fn raise_of(p: Point) -> Raise
-    ensures { λ r. ⌜ r ≡ raiseOf p ⌝ }
+// What an access of thread t asks of the counters and of the table of snapshots, by where the thread stands, which snapshot is current,
+// and the values `seen` that the thread has read for its sum.
+pub fn request(p: Point, t: ThreadId, current: SnapshotId, seen: [Counts; THREADS]) -> Request
+    ensures { λ r. ⌜ r ≡ requestAt p t current seen ⌝ }
 {
     match p {
-        Point::Idle => no_raise(),
-        Point::ReadSlot => no_raise(),
-        Point::Updating(q, u, _) => update_raises(q, u),
-        Point::CountInsertions => no_raise(),
-        Point::Link(_) => no_raise(),
-        Point::HelpUnlink(_, _) => no_raise(),
-        Point::CountDeletions(_) => no_raise(),
-        Point::Mark(_, _) => no_raise(),
-        Point::Unlink(_, _) => no_raise(),
-        Point::Sizing(_) => no_raise(),
-    }
-}
-
-fn update_exchange(p: UpdatePoint, u: Update) -> Exchange
-    ensures { λ r. ⌜ r ≡ updateAsks p (cellOf u) (u .node .note .1) ⌝ }
-{
-    let c = u.node.note.1;
-    update_asks(p, cell_of(u), c)
-}
-
-// What an access asks of the table of snapshots, by a thread that has read the values `seen` for its sum.
-pub fn asks(p: Point, current: SnapshotId, seen: [Counts; 8]) -> Exchange
-    ensures { λ r. ⌜ r ≡ asksOf p current seen ⌝ }
-{
-    match p {
-        Point::Idle => Exchange::Nothing,
-        Point::ReadSlot => Exchange::Nothing,
-        Point::Updating(q, u, _) => update_exchange(q, u),
-        Point::CountInsertions => Exchange::Nothing,
-        Point::Link(_) => Exchange::Nothing,
-        Point::HelpUnlink(_, _) => Exchange::Nothing,
-        Point::CountDeletions(_) => Exchange::Nothing,
-        Point::Mark(_, _) => Exchange::Nothing,
-        Point::Unlink(_, _) => Exchange::Nothing,
-        Point::Sizing(q) => size_asks(q, current, seen),
-    }
-}
-
-// The record that it asks it of.
-pub fn changes(p: Point, current: SnapshotId) -> SnapshotId
-    ensures { λ r. ⌜ r ≡ changesOf p current ⌝ }
-{
-    match p {
-        Point::Idle => SnapshotId(0),
-        Point::ReadSlot => SnapshotId(0),
-        Point::Updating(q, _, _) => update_looks_at(q),
-        Point::CountInsertions => SnapshotId(0),
-        Point::Link(_) => SnapshotId(0),
-        Point::HelpUnlink(_, _) => SnapshotId(0),
-        Point::CountDeletions(_) => SnapshotId(0),
-        Point::Mark(_, _) => SnapshotId(0),
-        Point::Unlink(_, _) => SnapshotId(0),
-        Point::Sizing(q) => size_changes(q, current),
+        Point::Idle => Request::Nothing,
+        Point::ReadSlot => Request::Nothing,
+        Point::Updating(q, u, _) => updating_request(q, u),
+        Point::CountInsertions => own_count(t, Kind::Insertion),
+        Point::Link(_) => Request::Nothing,
+        Point::HelpUnlink(_, _) => Request::Nothing,
+        Point::CountDeletions(_) => own_count(t, Kind::Deletion),
+        Point::Mark(_, _) => Request::Nothing,
+        Point::Unlink(_, _) => Request::Nothing,
+        Point::Sizing(q) => size_request(q, current, seen),
     }
 }

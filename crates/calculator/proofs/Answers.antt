@@ -3,9 +3,12 @@ use Rattle.calculator.proofs.Once.{Once, once}
 use Rattle.calculator.proofs.figure4.one_more.Reads as one-more
 use Rattle.calculator.proofs.figure4.one_more_byte.Reads as one-more-byte
 use Rattle.calculator.proofs.figure4.count_of.Reads as count-of
+use Rattle.calculator.proofs.figure4.with_count.Reads as with-count
 use Rattle.calculator.proofs.figure4.count_at.Reads as count-at
 use Rattle.calculator.proofs.figure4.set_count.Reads as set-count
 use Rattle.calculator.proofs.figure4.block_of.Reads as block-of
+use Rattle.calculator.proofs.figure4.sight_by.Reads as sight-by
+use Rattle.calculator.proofs.figure4.window_of.Reads as window-of
 use Rattle.calculator.proofs.figure4.new_id.Reads as new-id
 use Rattle.calculator.proofs.figure5.read_count.Reads as read-count
 use Rattle.calculator.proofs.figure5.raise_count.Reads as raise-count
@@ -19,9 +22,6 @@ use Rattle.calculator.proofs.figure5.announce.Reads as announce
 use Rattle.calculator.proofs.figure5.collect_count.Reads as collect-count
 use Rattle.calculator.proofs.figure5.lower_flag.Reads as lower-flag
 use Rattle.calculator.proofs.figure5.size.Reads as size
-use Rattle.calculator.proofs.figure5.update_looks_at.Reads as update-looks-at
-use Rattle.calculator.proofs.figure5.size_looks_at.Reads as size-looks-at
-use Rattle.calculator.proofs.figure5.size_cell.Reads as size-cell
 use Rattle.calculator.proofs.figure6.on_to.Reads as on-to
 use Rattle.calculator.proofs.figure6.done.Reads as done
 use Rattle.calculator.proofs.figure6.read_cell.Reads as read-cell
@@ -32,20 +32,25 @@ use Rattle.calculator.proofs.figure6.go_to.Reads as go-to
 use Rattle.calculator.proofs.figure6.collect_cell.Reads as collect-cell
 use Rattle.calculator.proofs.figure6.collect_set.Reads as collect-set
 use Rattle.calculator.proofs.figure6.sum_cell.Reads as sum-cell
+use Rattle.calculator.proofs.figure6.total.Reads as total
 use Rattle.calculator.proofs.figure6.fix_size.Reads as fix-size
-use Rattle.calculator.proofs.figure4.with_count.Reads as with-count
-use Rattle.calculator.proofs.figure4.sight_of.Reads as sight-of
-use Rattle.calculator.proofs.figure4.window_of.Reads as window-of
 use Rattle.calculator.proofs.exchange.before.Reads as before
 use Rattle.calculator.proofs.exchange.raised_pair.Reads as raised-pair
 use Rattle.calculator.proofs.exchange.exchanged.Reads as exchanged
+use Rattle.calculator.proofs.exchange.flag.Reads as flag
+use Rattle.calculator.proofs.exchange.cell_at.Reads as cell-at
 use Rattle.calculator.proofs.exchange.witnessed.Reads as witnessed
 use Rattle.calculator.proofs.exchange.traced.Reads as traced
 use Rattle.calculator.proofs.exchange.current_after.Reads as current-after
-use Rattle.calculator.proofs.exchange.update_asks.Reads as update-asks
-use Rattle.calculator.proofs.exchange.size_asks.Reads as size-asks
-use Rattle.calculator.proofs.exchange.size_changes.Reads as size-changes
-use Rattle.calculator.proofs.figure6.total.Reads as total
+use Rattle.calculator.proofs.request.update_request.Reads as update-request
+use Rattle.calculator.proofs.request.size_request.Reads as size-request
+use Rattle.calculator.proofs.request.counter_of.Reads as counter-of
+use Rattle.calculator.proofs.request.record_of.Reads as record-of
+use Rattle.calculator.proofs.request.heard_of.Reads as heard-of
+use Rattle.calculator.proofs.request.pair_by.Reads as pair-by
+use Rattle.calculator.proofs.request.record_by.Reads as record-by
+use Rattle.calculator.proofs.request.trace_by.Reads as trace-by
+use Rattle.calculator.proofs.request.current_by.Reads as current-by
 
 pub one-more-once : Once (one-more.Post tt)
 one-more-once a r s e p q = once p q
@@ -56,6 +61,9 @@ one-more-byte-once a r s e p q = once p q
 pub count-of-once : Once (count-of.Post tt)
 count-of-once a r s e p q = once p q
 
+pub with-count-once : Once (with-count.Post tt)
+with-count-once a r s e p q = once p q
+
 pub count-at-once : Once (count-at.Post tt)
 count-at-once a r s e p q = once p q
 
@@ -64,6 +72,12 @@ set-count-once a r s e p q = once p q
 
 pub block-of-once : Once (block-of.Post tt)
 block-of-once a r s e p q = once p q
+
+pub sight-by-once : Once (sight-by.Post tt)
+sight-by-once a r s e p q = once p q
+
+pub window-of-once : Once (window-of.Post tt)
+window-of-once a r s e p q = once p q
 
 pub new-id-once : Once (new-id.Post tt)
 new-id-once a r s e p q = once p q
@@ -104,15 +118,6 @@ lower-flag-once a r s e p q = once p q
 pub size-once : Once (size.Post tt)
 size-once a r s e p q = once p q
 
-pub update-looks-at-once : Once (update-looks-at.Post tt)
-update-looks-at-once a r s e p q = once p q
-
-pub size-looks-at-once : Once (size-looks-at.Post tt)
-size-looks-at-once a r s e p q = once p q
-
-pub size-cell-once : Once (size-cell.Post tt)
-size-cell-once a r s e p q = once p q
-
 pub on-to-once : Once (on-to.Post tt)
 on-to-once a r s e p q = once p q
 
@@ -143,17 +148,11 @@ collect-set-once a r s e p q = once p q
 pub sum-cell-once : Once (sum-cell.Post tt)
 sum-cell-once a r s e p q = once p q
 
+pub total-once : Once (total.Post tt)
+total-once a r s e p q = once p q
+
 pub fix-size-once : Once (fix-size.Post tt)
 fix-size-once a r s e p q = once p q
-
-pub with-count-once : Once (with-count.Post tt)
-with-count-once a r s e p q = once p q
-
-pub sight-of-once : Once (sight-of.Post tt)
-sight-of-once a r s e p q = once p q
-
-pub window-of-once : Once (window-of.Post tt)
-window-of-once a r s e p q = once p q
 
 pub before-once : Once (before.Post tt)
 before-once a r s e p q = once p q
@@ -164,6 +163,12 @@ raised-pair-once a r s e p q = once p q
 pub exchanged-once : Once (exchanged.Post tt)
 exchanged-once a r s e p q = once p q
 
+pub flag-once : Once (flag.Post tt)
+flag-once a r s e p q = once p q
+
+pub cell-at-once : Once (cell-at.Post tt)
+cell-at-once a r s e p q = once p q
+
 pub witnessed-once : Once (witnessed.Post tt)
 witnessed-once a r s e p q = once p q
 
@@ -173,14 +178,29 @@ traced-once a r s e p q = once p q
 pub current-after-once : Once (current-after.Post tt)
 current-after-once a r s e p q = once p q
 
-pub update-asks-once : Once (update-asks.Post tt)
-update-asks-once a r s e p q = once p q
+pub update-request-once : Once (update-request.Post tt)
+update-request-once a r s e p q = once p q
 
-pub size-asks-once : Once (size-asks.Post tt)
-size-asks-once a r s e p q = once p q
+pub size-request-once : Once (size-request.Post tt)
+size-request-once a r s e p q = once p q
 
-pub size-changes-once : Once (size-changes.Post tt)
-size-changes-once a r s e p q = once p q
+pub counter-of-once : Once (counter-of.Post tt)
+counter-of-once a r s e p q = once p q
 
-pub total-once : Once (total.Post tt)
-total-once a r s e p q = once p q
+pub record-of-once : Once (record-of.Post tt)
+record-of-once a r s e p q = once p q
+
+pub heard-of-once : Once (heard-of.Post tt)
+heard-of-once a r s e p q = once p q
+
+pub pair-by-once : Once (pair-by.Post tt)
+pair-by-once a r s e p q = once p q
+
+pub record-by-once : Once (record-by.Post tt)
+record-by-once a r s e p q = once p q
+
+pub trace-by-once : Once (trace-by.Post tt)
+trace-by-once a r s e p q = once p q
+
+pub current-by-once : Once (current-by.Post tt)
+current-by-once a r s e p q = once p q

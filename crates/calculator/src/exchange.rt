@@ -1,30 +1,27 @@
-// An access as one exchange, by value: what it asks of the table of snapshots or of the counters, and what a record, its trace or a
-// pair of counters is afterwards. What lends memory loads a part, calls these and stores it.
+// An exchange, by value: what a record of the table of snapshots, its trace or a pair of counters is afterwards, and the value that is
+// found. What lends memory loads a part, calls these and stores it.
+use super::figure4::THREADS;
 use super::figure4::block_of;
 use super::figure4::count_at;
 use super::figure4::count_of;
 use super::figure4::new_id;
 use super::figure4::set_count;
 use super::figure4::with_count;
-use super::figure6::total;
 use figures::Cell;
 use figures::Counts;
 use figures::Kind;
 use figures::Machine;
-use figures::SizePoint;
 use figures::Snapshot;
 use figures::Trace;
-use figures::UpdatePoint;
 use terms::SnapshotId;
 use terms::Target;
 ghost use mathlib.Core.Path.{_≡_};
-ghost use mathlib.Core.Bool.{true, false, cond};
+ghost use mathlib.Core.Bool.{false, cond};
 ghost use Prim.Native.Nat.{_-_};
 ghost use lib.Dec.{eqb};
 ghost use Rattle.figures.specs.Limits.{invalid};
 ghost use Rattle.figures.specs.Figure4.{countAt, setCount, freshSnapshot, freshTrace};
-ghost use Rattle.calculator.specs.declared.exchange.Exchange.the-variants.{Nothing, Anew};
-ghost use Rattle.calculator.specs.Exchanges.{raisedPair, exchangedOf, witnessedOf, tracedOf, currentOf, updateAsks, sizeAsks, sizeChanges};
+ghost use Rattle.calculator.specs.Exchanges.{raisedPair, exchangedOf, witnessedOf, tracedOf, currentOf};
 
 pub enum Exchange {
     Nothing,
@@ -101,7 +98,7 @@ fn sized(s: Snapshot, v: u32) -> Snapshot
     }
 }
 
-// Figure 4, lines 55 and 87: a record of which nothing is known yet.
+// Figure 5, line 55, and figure 6, line 87: a new record, of which nothing is known yet.
 fn anew(collecting: bool) -> Snapshot
     ensures { λ r. ⌜ r ≡ freshSnapshot collecting ⌝ }
 {
@@ -126,13 +123,13 @@ pub fn exchanged(x: Exchange, s: Snapshot) -> Snapshot
     }
 }
 
-fn flag(collecting: bool) -> u32
+pub fn flag(collecting: bool) -> u32
     ensures { λ r. ⌜ r ≡ cond collecting 1 0 ⌝ }
 {
     if collecting { 1 } else { 0 }
 }
 
-fn cell_at(s: Snapshot, j: Cell) -> u32
+pub fn cell_at(s: Snapshot, j: Cell) -> u32
     ensures { λ r. ⌜ r ≡ countAt (s .cells) j ⌝ }
 {
     let cells = s.cells;
@@ -152,32 +149,34 @@ pub fn witnessed(x: Exchange, s: Snapshot) -> u32
     }
 }
 
-// The step of a snapshot's closing, after its flag was written: the first writing closes it.
-fn closing(collecting: bool, step: u32, closed: u32) -> u32
-    ensures { λ r. ⌜ r ≡ cond collecting step closed ⌝ }
+// The step of a snapshot's closing, after its flag was written: the first writing finds it raised, and closes the snapshot.
+fn closing(heard: u32, step: u32, closed: u32) -> u32
+    ensures { λ r. ⌜ r ≡ cond (eqb heard 0) closed step ⌝ }
 {
-    if collecting { step } else { closed }
+    if heard == 0 { closed } else { step }
 }
 
-fn closed(t: Trace, collecting: bool, step: u32) -> Trace
-    ensures { λ r. ⌜ r ≡ record { announced = t .announced; closed = cond collecting step (t .closed); seen = t .seen } ⌝ }
+fn closed(t: Trace, heard: u32, step: u32) -> Trace
+    ensures { λ r. ⌜ r ≡ record { announced = t .announced; closed = cond (eqb heard 0) (t .closed) step; fixed = t .fixed; seen = t .seen } ⌝ }
 {
     let seen = t.seen;
     Trace {
         announced: t.announced,
-        closed: closing(collecting, step, t.closed),
+        closed: closing(heard, step, t.closed),
+        fixed: t.fixed,
         seen: seen,
     }
 }
 
-// A snapshot whose size was INVALID has this thread for its winner.
-fn won(t: Trace, size: u32, seen: [Counts; 8]) -> Trace
-    ensures { λ r. ⌜ r ≡ cond (eqb size invalid) (record { announced = t .announced; closed = t .closed; seen = seen }) t ⌝ }
+// A snapshot whose size was INVALID has this thread for its winner, and is fixed at this step.
+fn won(t: Trace, heard: u32, step: u32, seen: [Counts; THREADS]) -> Trace
+    ensures { λ r. ⌜ r ≡ cond (eqb heard invalid) (record { announced = t .announced; closed = t .closed; fixed = step; seen = seen }) t ⌝ }
 {
-    if size == Machine::INVALID {
+    if heard == Machine::INVALID {
         Trace {
             announced: t.announced,
             closed: t.closed,
+            fixed: step,
             seen: seen,
         }
     } else {
@@ -192,19 +191,20 @@ fn begun(step: u32) -> Trace
     Trace {
         announced: step,
         closed: 0,
+        fixed: 0,
         seen: seen,
     }
 }
 
-// What the log needs of the record, after an exchange that found it as s.
-pub fn traced(x: Exchange, s: Snapshot, step: u32, seen: [Counts; 8], t: Trace) -> Trace
-    ensures { λ r. ⌜ r ≡ tracedOf x s step seen t ⌝ }
+// What the log needs of the record, after an exchange that found this value.
+pub fn traced(x: Exchange, heard: u32, step: u32, seen: [Counts; THREADS], t: Trace) -> Trace
+    ensures { λ r. ⌜ r ≡ tracedOf x heard step seen t ⌝ }
 {
     match x {
         Exchange::Nothing => t,
         Exchange::OfCell(_, _, _) => t,
-        Exchange::OfFlag => closed(t, s.collecting, step),
-        Exchange::OfSize(_) => won(t, s.size, seen),
+        Exchange::OfFlag => closed(t, heard, step),
+        Exchange::OfSize(_) => won(t, heard, step, seen),
         Exchange::Anew(_) => begun(step),
     }
 }
@@ -219,64 +219,5 @@ pub fn current_after(x: Exchange, n: SnapshotId) -> SnapshotId
         Exchange::OfFlag => n,
         Exchange::OfSize(_) => n,
         Exchange::Anew(_) => new_id(n),
-    }
-}
-
-// What an access of updateMetadata for cell j and target c asks of the table.
-pub fn update_asks(p: UpdatePoint, j: Cell, c: Target) -> Exchange
-    ensures { λ r. ⌜ r ≡ updateAsks p j c ⌝ }
-{
-    match p {
-        UpdatePoint::ReadCount => Exchange::Nothing,
-        UpdatePoint::RaiseCount => Exchange::Nothing,
-        UpdatePoint::ReadCurrent => Exchange::Nothing,
-        UpdatePoint::ReadFlag(_) => Exchange::Nothing,
-        UpdatePoint::ReadAgain(_) => Exchange::Nothing,
-        UpdatePoint::ReadCell(_) => Exchange::Nothing,
-        UpdatePoint::Forward(_, known) => Exchange::OfCell(j, known, c.0),
-    }
-}
-
-fn announces(n: SnapshotId, current: SnapshotId) -> Exchange
-    ensures { λ r. ⌜ r ≡ cond (eqb (current .0) (n .0)) (Anew true) Nothing ⌝ }
-{
-    if current.0 == n.0 {
-        Exchange::Anew(true)
-    } else {
-        Exchange::Nothing
-    }
-}
-
-// What an access of compute asks of the table, by a thread that has read the values `seen` for its sum.
-pub fn size_asks(p: SizePoint, current: SnapshotId, seen: [Counts; 8]) -> Exchange
-    ensures { λ r. ⌜ r ≡ sizeAsks p current seen ⌝ }
-{
-    match p {
-        SizePoint::FindCurrent => Exchange::Nothing,
-        SizePoint::FindFlag(_) => Exchange::Nothing,
-        SizePoint::Announce(n) => announces(n, current),
-        SizePoint::CollectCount(_, _) => Exchange::Nothing,
-        SizePoint::CollectCell(_, _, _) => Exchange::Nothing,
-        SizePoint::CollectSet(_, j, v) => Exchange::OfCell(j, Machine::INVALID, v),
-        SizePoint::LowerFlag(_) => Exchange::OfFlag,
-        SizePoint::SumCell(_, _) => Exchange::Nothing,
-        SizePoint::FixSize(_) => Exchange::OfSize(total(seen)),
-    }
-}
-
-// The record that it asks it of.
-pub fn size_changes(p: SizePoint, current: SnapshotId) -> SnapshotId
-    ensures { λ r. ⌜ r ≡ sizeChanges p current ⌝ }
-{
-    match p {
-        SizePoint::FindCurrent => SnapshotId(0),
-        SizePoint::FindFlag(n) => n,
-        SizePoint::Announce(_) => new_id(current),
-        SizePoint::CollectCount(n, _) => n,
-        SizePoint::CollectCell(n, _, _) => n,
-        SizePoint::CollectSet(n, _, _) => n,
-        SizePoint::LowerFlag(n) => n,
-        SizePoint::SumCell(n, _) => n,
-        SizePoint::FixSize(n) => n,
     }
 }

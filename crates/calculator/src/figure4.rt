@@ -2,14 +2,20 @@
 use figures::Cell;
 use figures::Counts;
 use figures::Kind;
+use figures::Machine;
 use figures::Sight;
-use figures::Snapshot;
 use terms::SnapshotId;
 use terms::ThreadId;
 ghost use mathlib.Core.Path.{_≡_};
+ghost use mathlib.Core.Bool.{not};
+ghost use lib.Dec.{eqb};
 ghost use lib.ListN.{getD, set};
 ghost use Rattle.figures.specs.Figure4.{more, moreByte, both, blockOf, countOf, withCount, countAt, setCount, newId};
-ghost use Rattle.calculator.specs.Exchanges.{sightIn, windowIn};
+ghost use Rattle.calculator.specs.Exchanges.{windowIn};
+ghost use Rattle.calculator.specs.Requests.{sightBy};
+
+// How many pairs a block has: one for each thread.
+pub const THREADS: usize = Machine::THREADS as usize;
 
 pub fn one_more(x: u32) -> u32
     ensures { λ r. ⌜ r ≡ more x ⌝ }
@@ -48,11 +54,11 @@ pub fn with_count(k: Kind, n: u32, c: Counts) -> Counts
 }
 
 // The pair of a thread; a thread that is not there has none.
-fn pair_at(b: [Counts; 8], i: ThreadId) -> Counts
+fn pair_at(b: [Counts; THREADS], i: ThreadId) -> Counts
     ensures { λ r. ⌜ r ≡ getD b (i .0) (both 0) ⌝ }
 {
     let k = i.0 as usize;
-    if k < 8 {
+    if k < THREADS {
         b[k]
     } else {
         Counts {
@@ -62,24 +68,24 @@ fn pair_at(b: [Counts; 8], i: ThreadId) -> Counts
     }
 }
 
-fn with_pair(mut b: [Counts; 8], i: ThreadId, c: Counts) -> [Counts; 8]
+fn with_pair(mut b: [Counts; THREADS], i: ThreadId, c: Counts) -> [Counts; THREADS]
     ensures { λ r. ⌜ r ≡ set b (i .0) c ⌝ }
 {
     let k = i.0 as usize;
-    if k < 8 {
+    if k < THREADS {
         b[k] = c;
     }
     b
 }
 
-pub fn count_at(b: [Counts; 8], j: Cell) -> u32
+pub fn count_at(b: [Counts; THREADS], j: Cell) -> u32
     ensures { λ r. ⌜ r ≡ countAt b j ⌝ }
 {
     let k = j.kind;
     count_of(k, pair_at(b, j.thread))
 }
 
-pub fn set_count(b: [Counts; 8], j: Cell, n: u32) -> [Counts; 8]
+pub fn set_count(b: [Counts; THREADS], j: Cell, n: u32) -> [Counts; THREADS]
     ensures { λ r. ⌜ r ≡ setCount b j n ⌝ }
 {
     let k = j.kind;
@@ -87,35 +93,40 @@ pub fn set_count(b: [Counts; 8], j: Cell, n: u32) -> [Counts; 8]
     with_pair(b, j.thread, with_count(k, n, c))
 }
 
-pub fn block_of(n: u32) -> [Counts; 8]
+pub fn block_of(n: u32) -> [Counts; THREADS]
     ensures { λ r. ⌜ r ≡ blockOf n ⌝ }
 {
     let c = Counts {
         insertions: n,
         deletions: n,
     };
-    [c; 8]
+    [c; THREADS]
 }
 
-// What an access sees that looks at cell j and at record s, where the counter has this count.
-pub fn sight_of(count: u32, current: SnapshotId, s: Snapshot, j: Cell) -> Sight
-    ensures { λ r. ⌜ r ≡ sightIn count current s j ⌝ }
+fn is_raised(flag: u32) -> bool
+    ensures { λ r. ⌜ r ≡ not (eqb flag 0) ⌝ }
 {
-    let cells = s.cells;
+    if flag == 0 { false } else { true }
+}
+
+// What an access sees that heard this number of what it asked for: a count, a cell, a size, or a flag as 1 or 0.
+pub fn sight_by(heard: u32, current: SnapshotId) -> Sight
+    ensures { λ r. ⌜ r ≡ sightBy heard current ⌝ }
+{
     Sight {
-        count: count,
+        count: heard,
         current: current,
-        collecting: s.collecting,
-        cell: count_at(cells, j),
-        size: s.size,
+        collecting: is_raised(heard),
+        cell: heard,
+        size: heard,
     }
 }
 
-// The current snapshot if its record s is being collected, else 0.
-pub fn window_of(current: SnapshotId, s: Snapshot) -> SnapshotId
-    ensures { λ r. ⌜ r ≡ windowIn current s ⌝ }
+// The snapshot that is being collected: the current one, if it was not closed at any step (0: not yet), and else 0.
+pub fn window_of(current: SnapshotId, closed: u32) -> SnapshotId
+    ensures { λ r. ⌜ r ≡ windowIn current closed ⌝ }
 {
-    if s.collecting { current } else { SnapshotId(0) }
+    if closed == 0 { current } else { SnapshotId(0) }
 }
 
 pub fn new_id(n: SnapshotId) -> SnapshotId

@@ -1,5 +1,6 @@
 // Figure 5, the methods of the calculator, one access each: updateMetadata and compute.
 use super::exchange::before;
+use super::figure4::THREADS;
 use super::figure4::new_id;
 use super::figure6::collect_cell;
 use super::figure6::collect_set;
@@ -25,7 +26,7 @@ use figures::UpdatePoint;
 use terms::SnapshotId;
 use terms::Target;
 ghost use mathlib.Core.Path.{_≡_};
-ghost use Rattle.figures.specs.Figure5.{readCount, raiseCount, readCurrent, readFlag, readAgain, updateAt, findCurrent, findFlag, announce, collectCount, lowerFlag, sizeAt, updateLooksAt, sizeLooksAt, sizeCell};
+ghost use Rattle.figures.specs.Figure5.{readCount, raiseCount, readCurrent, readFlag, readAgain, updateAt, findCurrent, findFlag, announce, collectCount, lowerFlag, sizeAt};
 
 // Line 78: read the counter; if it is c-1, exchange.
 pub fn read_count(c: Target, s: Sight) -> UpdateMove
@@ -151,7 +152,7 @@ pub fn lower_flag(n: SnapshotId) -> SizeMove
 }
 
 // Lines 57 to 74: one access of compute, with so many threads, by a thread that has read the values `seen` for its sum.
-pub fn size(p: SizePoint, threads: u8, seen: [Counts; 8], s: Sight) -> SizeMove
+pub fn size(p: SizePoint, threads: u8, seen: [Counts; THREADS], s: Sight) -> SizeMove
     ensures { λ r. ⌜ r ≡ sizeAt p threads seen s ⌝ }
 {
     match p {
@@ -164,54 +165,5 @@ pub fn size(p: SizePoint, threads: u8, seen: [Counts; 8], s: Sight) -> SizeMove
         SizePoint::LowerFlag(n) => lower_flag(n),
         SizePoint::SumCell(n, j) => sum_cell(threads, n, j, s),
         SizePoint::FixSize(n) => fix_size(n, seen, s),
-    }
-}
-
-// The snapshot that an access of updateMetadata looks at.
-pub fn update_looks_at(p: UpdatePoint) -> SnapshotId
-    ensures { λ r. ⌜ r ≡ updateLooksAt p ⌝ }
-{
-    match p {
-        UpdatePoint::ReadCount => SnapshotId(0),
-        UpdatePoint::RaiseCount => SnapshotId(0),
-        UpdatePoint::ReadCurrent => SnapshotId(0),
-        UpdatePoint::ReadFlag(n) => n,
-        UpdatePoint::ReadAgain(n) => n,
-        UpdatePoint::ReadCell(n) => n,
-        UpdatePoint::Forward(n, _) => n,
-    }
-}
-
-// The snapshot that an access of compute looks at.
-pub fn size_looks_at(p: SizePoint) -> SnapshotId
-    ensures { λ r. ⌜ r ≡ sizeLooksAt p ⌝ }
-{
-    match p {
-        SizePoint::FindCurrent => SnapshotId(0),
-        SizePoint::FindFlag(n) => n,
-        SizePoint::Announce(n) => n,
-        SizePoint::CollectCount(n, _) => n,
-        SizePoint::CollectCell(n, _, _) => n,
-        SizePoint::CollectSet(n, _, _) => n,
-        SizePoint::LowerFlag(n) => n,
-        SizePoint::SumCell(n, _) => n,
-        SizePoint::FixSize(n) => n,
-    }
-}
-
-// The cell that an access of compute looks at.
-pub fn size_cell(p: SizePoint) -> Cell
-    ensures { λ r. ⌜ r ≡ sizeCell p ⌝ }
-{
-    match p {
-        SizePoint::FindCurrent => first_cell(),
-        SizePoint::FindFlag(_) => first_cell(),
-        SizePoint::Announce(_) => first_cell(),
-        SizePoint::CollectCount(_, j) => j,
-        SizePoint::CollectCell(_, j, _) => j,
-        SizePoint::CollectSet(_, j, _) => j,
-        SizePoint::LowerFlag(_) => first_cell(),
-        SizePoint::SumCell(_, j) => j,
-        SizePoint::FixSize(_) => first_cell(),
     }
 }

@@ -1,4 +1,5 @@
 // Figure 6, the methods of a snapshot, one access each: forward, add, computeSize.
+use super::figure4::THREADS;
 use super::figure4::count_of;
 use super::figure4::one_more_byte;
 use figures::Cell;
@@ -177,12 +178,12 @@ pub fn sum_cell(threads: u8, n: SnapshotId, j: Cell, s: Sight) -> SizeMove
     goes(p, SizeDeed::Keeps(j, s.cell))
 }
 
-fn sum_of(k: Kind, b: [Counts; 8]) -> u64
+fn sum_of(k: Kind, b: [Counts; THREADS]) -> u64
     ensures { λ r. ⌜ r ≡ sumOf k b ⌝ }
 {
     let mut sum: u64 = 0;
     let mut i = 0;
-    while i < 8 {
+    while i < THREADS {
         sum += count_of(k, b[i]) as u64;
         i += 1;
     }
@@ -190,7 +191,7 @@ fn sum_of(k: Kind, b: [Counts; 8]) -> u64
 }
 
 // The sum of insertions less deletions.
-pub fn total(b: [Counts; 8]) -> u32
+pub fn total(b: [Counts; THREADS]) -> u32
     ensures { λ r. ⌜ r ≡ totalOf b ⌝ }
 {
     let up = sum_of(Kind::Insertion, b);
@@ -203,7 +204,7 @@ pub fn total(b: [Counts; 8]) -> u32
 }
 
 // Line 109: exchange INVALID for the sum; on failure return the witnessed size.
-pub fn fix_size(n: SnapshotId, seen: [Counts; 8], s: Sight) -> SizeMove
+pub fn fix_size(n: SnapshotId, seen: [Counts; THREADS], s: Sight) -> SizeMove
     ensures { λ r. ⌜ r ≡ fixSize n seen s ⌝ }
 {
     let sum = total(seen);

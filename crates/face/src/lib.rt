@@ -1,4 +1,5 @@
 // What other languages call: reading, writing and running. A slice is a pointer and a count there, a structure is C's.
+use figures::Machine;
 ghost use mathlib.Core.Path.{_≡_};
 ghost use lib.ListN.{length};
 ghost use lib.Seq.{sets};
@@ -14,7 +15,7 @@ pub struct ReadAnswer {
     pub place: usize,
     pub threads: u8,
     pub keys: u8,
-    pub counts: [u16; 8],
+    pub counts: [u16; Machine::THREADS as usize],
     pub operations_at: usize,
     pub operations: usize,
     pub schedule_at: usize,
@@ -57,7 +58,8 @@ pub extern "C" fn pszenorad_write(
     schedule: &[u8],
     out: &mut [u8],
 ) -> WriteAnswer
-    ensures { λ r. ⌜ r ≡ toldOfWriting (writeOf threads keys (now (counts .entry)) (now (operations .entry)) (now (schedule .entry)) (length (now (out .entry)))) ⌝ }
+    ensures { λ r. ⌜ r ≡ toldOfWriting
+        (writeOf threads keys (now (counts .entry)) (now (operations .entry)) (now (schedule .entry)) (length (now (out .entry)))) ⌝ }
     ensures { λ r. ⌜ now (out .exit) ≡ sets (now (out .entry)) 0
         (writtenOf threads keys (now (counts .entry)) (now (operations .entry)) (now (schedule .entry)) (length (now (out .entry)))) ⌝ }
 {
@@ -82,8 +84,10 @@ pub struct RunAnswer {
 #[no_mangle]
 pub extern "C" fn pszenorad_run(file: &[u8], results: &mut [u32], log: &mut [u32]) -> RunAnswer
     ensures { λ r. ⌜ r ≡ toldOfRun (toldOf (now (file .entry)) (length (now (results .entry))) (length (now (log .entry)))) ⌝ }
-    ensures { λ r. ⌜ now (results .exit) ≡ sets (now (results .entry)) 0 (when (numberOf (now (file .entry)) (length (now (results .entry))) (length (now (log .entry)))) (resultsOf (now (file .entry)))) ⌝ }
-    ensures { λ r. ⌜ now (log .exit) ≡ sets (now (log .entry)) 0 (when (numberOf (now (file .entry)) (length (now (results .entry))) (length (now (log .entry)))) (entriesOf (now (file .entry)))) ⌝ }
+    ensures { λ r. ⌜ now (results .exit) ≡ sets (now (results .entry)) 0
+        (when (numberOf (now (file .entry)) (length (now (results .entry))) (length (now (log .entry)))) (resultsOf (now (file .entry)))) ⌝ }
+    ensures { λ r. ⌜ now (log .exit) ≡ sets (now (log .entry)) 0
+        (when (numberOf (now (file .entry)) (length (now (results .entry))) (length (now (log .entry)))) (entriesOf (now (file .entry)))) ⌝ }
 {
     let a = play::run(file, results, log);
     RunAnswer {

@@ -1,13 +1,12 @@
 -- The start state: whose the operations are, and that nothing has happened.
 use Prim.Native.Nat.{ℕ, zero, suc, _+_, _-_, _%_, _≤_, _<_}
 use mathlib.Core.Path.{_≡_, refl, ap, _∙_}
-use mathlib.Core.Logic.{_≢_}
 use mathlib.Core.List.{List, [], _∷_}
 use native.Mathlib.Omega.{arith}
 use native.Mathlib.Nat.{le-of-suc-le-suc}
-use native.Mathlib.Decide.{decLt}
 use lib.ListN.{length, getD, set, replicate, length-replicate, List·getD-append}
 use lib.Seq.{sets, sets-eq}
+use Rattle.history.proofs.Turns as Turns
 use Rattle.figures.specs.declared.Point.the-variants.{Idle}
 use Rattle.figures.specs.declared.Record.{Record}
 use Rattle.figures.specs.Step.{noLocal, noRecord}
@@ -34,18 +33,8 @@ before-next (c ∷ counts) zero = omega arith
 before-next (c ∷ counts) (suc t) = omega (arith, before-next counts t)
 
 -- operation o is one of thread t's
-pub record Owned (counts : List ℕ) (t o : ℕ) : Type 0 where
-  pub thread : t < 8
-  pub from : opsBefore counts t ≤ o
-  pub below : o < opsBefore counts (suc t)
-
--- no operation has two threads
-pub owned-apart : {counts : List ℕ} {t u o o' : ℕ} → Owned counts t o → Owned counts u o' → u ≢ t → o' ≢ o
-owned-apart {counts} {t} {u} {o} {o'} p q n e = go (decLt u t)
-  where
-    go : Dec (u < t) → ⊥
-    go (yes l) = omega (arith, before-grows counts (suc u) t l, p .from, q .below)
-    go (no l) = omega (arith, before-grows counts (suc t) u (omega arith), p .below, q .from)
+abbrev pub Owned : List ℕ → ℕ → ℕ → Type 0
+Owned counts t o = Turns.Owned 8 (opsBefore counts) t o
 
 owner-small : (counts : List ℕ) (o : ℕ) → o < opsBefore counts (length counts)
     → (ownerOf counts o < length counts) × (opsBefore counts (ownerOf counts o) ≤ o) × (o < opsBefore counts (suc (ownerOf counts o)))

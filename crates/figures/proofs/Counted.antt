@@ -5,11 +5,12 @@ use mathlib.Core.Path.{_≡_, refl, _∙_, subst}
 use mathlib.Core.List.{List, [], _∷_, _++_}
 use native.Mathlib.Omega.{arith}
 use lib.ListN.{length}
+use Rattle.history.specs.Steps.{stepsThat}
 use Rattle.figures.specs.declared.Record.{Record}
 use Rattle.figures.specs.declared.Machine.{Machine}
 use Rattle.figures.specs.Step.{stepOf, runOf}
 use Rattle.figures.specs.Start.{startOf}
-use Rattle.figures.specs.Counts.{Within, stepsThat, idleSteps, announcedSteps, Counted, SizeSteps}
+use Rattle.figures.specs.Counts.{Within, idleSteps, announcedSteps, Counted, SizeSteps}
 use Rattle.figures.proofs.Runs.{step-case}
 use Rattle.figures.proofs.Frame.{recordOf}
 use Rattle.figures.proofs.Begin.{start-records}

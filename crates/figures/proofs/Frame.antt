@@ -1,13 +1,14 @@
 -- What a step does to the operations' outcomes and to where the threads stand. A deed leaves all of that as it is; the rest of
 -- the step is the same for every access.
 use Prim.Native.Nat.{ℕ, suc, _<_}
-use mathlib.Core.Path.{_≡_, refl, ap, ap₂, _∙_}
+use mathlib.Core.Path.{_≡_, refl, sym, ap, ap₂, subst, _∙_}
 use mathlib.Core.Logic.{_≢_}
 use mathlib.Core.Bool.{Bool, cond}
 use native.Mathlib.Omega.{arith}
 use lib.ListN.{getD, set}
 use lib.Seq.{getD-set-same, getD-set-other}
 use lib.Dec.{eqb}
+use Rattle.history.proofs.Turns.{Board, Ending, goes, returns, Turn}
 use Rattle.terms.specs.declared.ThreadId.{ThreadId}
 use Rattle.terms.specs.declared.OpId.{OpId}
 use Rattle.figures.specs.declared.Calculator.{Calculator}
@@ -25,6 +26,7 @@ use Rattle.figures.specs.declared.Next.{Next}
 use Rattle.figures.specs.declared.Next.the-variants.{To, Returns}
 use Rattle.figures.specs.declared.Local.{Local}
 use Rattle.figures.specs.declared.Outcome.{Outcome}
+use Rattle.figures.specs.declared.Asked.{Asked}
 use Rattle.figures.specs.declared.Record.{Record}
 use Rattle.figures.specs.declared.Machine.{Machine}
 use Rattle.figures.specs.Figure4.{more, moreByte}
@@ -289,13 +291,29 @@ abbrev pub Busy : Next → Type 0
 Busy (To p) = Moving p
 Busy (Returns a) = Unit {0}
 
--- a step of operation o goes on in it, or returns
-pub data Ending (t o : ℕ) (m m' : Machine) : Type 0 where
-  goes : Moving (pointOf m' t) → opOf m' t ≡ o → lastOf m' o ≡ lastOf m o → Ending t o m m'
-  returns : pointOf m' t ≡ Idle → opOf m' t ≡ suc o → lastOf m' o ≡ suc (m .clock) → Ending t o m m'
+-- what `history` reads of a machine
+abbrev pub threadOf : Machine → ℕ → ℕ
+threadOf m o = recordOf m o .asked .thread .0
+
+abbrev pub boardOf : Machine → Board
+boardOf m =
+    record {
+      clock = m .clock;
+      idle = m .idle;
+      op = opOf m;
+      end = endOf m;
+      inside = λ t. Moving (pointOf m t);
+      between = λ t. pointOf m t ≡ Idle;
+      clash = λ t p e. subst Moving e p;
+      whose = threadOf m;
+      first = firstOf m;
+      last = lastOf m;
+      own = ownOf m;
+    }
 
 pub record Moved (t o : ℕ) (m m' : Machine) : Type 0 where
   pub threads : m' .threads ≡ m .threads
+  pub keys : m' .keys ≡ m .keys
   pub clock : m' .clock ≡ suc (m .clock)
   pub idle : m' .idle ≡ m .idle
   pub asked : (i : ℕ) → recordOf m' i .asked ≡ recordOf m i .asked
@@ -306,10 +324,10 @@ pub record Moved (t o : ℕ) (m m' : Machine) : Type 0 where
   pub op : (u : ℕ) → u ≢ t → opOf m' u ≡ opOf m u
   pub point : (u : ℕ) → u ≢ t → pointOf m' u ≡ pointOf m u
   pub end : (u : ℕ) → endOf m' u ≡ endOf m u
-  pub ending : Ending t o m m'
+  pub ending : Ending t o (boardOf m) (boardOf m')
 
 module _ (m m' : Machine) (t : ThreadId) (c : m .clock < 4096) (ol : localAt m t .op .0 < 64) (wl : ownOf m (localAt m t .op .0) < 4294967295) where
-  ending-of : (n : Next) → Busy n → Went t n m m' → Ending (t .0) (localAt m t .op .0) m m'
+  ending-of : (n : Next) → Busy n → Went t n m m' → Ending (t .0) (localAt m t .op .0) (boardOf m) (boardOf m')
   ending-of (To p) b w = goes (rw (w .here) b) (ap (λ (x : OpId). x .0) (w .next)) (ap (λ (x : Outcome). x .last) (w .mine))
   ending-of (Returns a) b w =
       returns (w .here) (ap (λ (x : OpId). x .0) (w .next) ∙ moreByte-is _ (omega arith)) (ap (λ (x : Outcome). x .last) (w .mine) ∙ more-is _ (omega arith))
@@ -326,6 +344,7 @@ module _ (m m' : Machine) (t : ThreadId) (c : m .clock < 4096) (ol : localAt m t
   moved-of n b w =
       record {
         threads = w .threads;
+        keys = w .keys;
         clock = w .clock ∙ more-is _ (omega arith);
         idle = w .idle;
         asked = w .asked;
@@ -338,3 +357,23 @@ module _ (m m' : Machine) (t : ThreadId) (c : m .clock < 4096) (ol : localAt m t
         end = λ u. ap (λ (x : OpId). x .0) (w .end u);
         ending = ending-of n b w;
       }
+
+-- so a step is a turn of its thread
+pub turn-of : {t o : ℕ} {m m' : Machine} → Moved t o m m' → Turn t o (boardOf m) (boardOf m')
+turn-of w =
+    record {
+      clock = w .clock;
+      idle = w .idle;
+      whose = λ a. ap (λ (x : Asked). x .thread .0) (w .asked a);
+      first-other = λ a n. ap (λ (x : Outcome). x .first) (w .other a n);
+      last-other = λ a n. ap (λ (x : Outcome). x .last) (w .other a n);
+      own-other = λ a n. ap (λ (x : Outcome). x .own) (w .other a n);
+      began = w .began;
+      kept = w .kept;
+      own = w .own;
+      op = w .op;
+      inside = λ u n p. subst Moving (w .point u n) p;
+      between = λ u n e. sym (w .point u n) ∙ e;
+      end = w .end;
+      ending = w .ending;
+    }

@@ -43,7 +43,7 @@ pub record Ages (x : ℕ) (w w' : World) (s : ℕ) : Type 0 where
   pub cell : (q : ℕ) → w .cell s q ≢ invalid → (w' .cell s q ≢ invalid) × (w .cell s q ≤ w' .cell s q)
   pub held : 0 < w .closed s → (q : ℕ) → w' .held s q ≡ w .held s q
   pub holds : w .closed s ≡ 0 → 0 < w' .closed s → (q : ℕ) → w .cell s q ≢ invalid → w .cell s q ≤ w' .held s q
-  pub size : w .size s ≢ invalid → (w' .size s ≡ w .size s) × (w' .seen s ≡ w .seen s)
+  pub size : w .size s ≢ invalid → (w' .size s ≡ w .size s) × (w' .seen s ≡ w .seen s) × (w' .fixed s ≡ w .fixed s)
 
 -- a counter changes only where an update of its thread's current operation is exchanged
 pub record Owed (w : World) (q : ℕ) : Type 0 where

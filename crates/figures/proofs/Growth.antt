@@ -79,7 +79,7 @@ module _ {x : ℕ} {w w' : World} where
   rise-same e a = record { kept = λ h. (e, a); new = λ z h. absurd (omega arith) }
 
   -- a snapshot whose flag and closing are as they were
-  ages-but : {s : ℕ} → w' .ann s ≡ w .ann s → w' .flag s ≡ w .flag s → w' .closed s ≡ w .closed s → w' .held s ≡ w .held s → ((q : ℕ) → w .cell s q ≢ invalid → (w' .cell s q ≢ invalid) × (w .cell s q ≤ w' .cell s q)) → (w .size s ≢ invalid → (w' .size s ≡ w .size s) × (w' .seen s ≡ w .seen s)) → Ages x w w' s
+  ages-but : {s : ℕ} → w' .ann s ≡ w .ann s → w' .flag s ≡ w .flag s → w' .closed s ≡ w .closed s → w' .held s ≡ w .held s → ((q : ℕ) → w .cell s q ≢ invalid → (w' .cell s q ≢ invalid) × (w .cell s q ≤ w' .cell s q)) → (w .size s ≢ invalid → (w' .size s ≡ w .size s) × (w' .seen s ≡ w .seen s) × (w' .fixed s ≡ w .fixed s)) → Ages x w w' s
   ages-but a f c h cell size =
       record {
         ann = a;
@@ -92,8 +92,8 @@ module _ {x : ℕ} {w w' : World} where
         size = size;
       }
 
-  ages-same : (s : ℕ) → w' .ann s ≡ w .ann s → w' .flag s ≡ w .flag s → w' .closed s ≡ w .closed s → w' .held s ≡ w .held s → w' .cell s ≡ w .cell s → w' .size s ≡ w .size s → w' .seen s ≡ w .seen s → Ages x w w' s
-  ages-same s a f c h cell size seen = ages-but a f c h (cells-same cell) (λ b. (size, seen))
+  ages-same : (s : ℕ) → w' .ann s ≡ w .ann s → w' .flag s ≡ w .flag s → w' .closed s ≡ w .closed s → w' .held s ≡ w .held s → w' .cell s ≡ w .cell s → w' .size s ≡ w .size s → w' .seen s ≡ w .seen s → w' .fixed s ≡ w .fixed s → Ages x w w' s
+  ages-same s a f c h cell size seen fixed = ages-but a f c h (cells-same cell) (λ b. (size, seen, fixed))
 
 module _ {w w' : World} where
   apart : {o : ℕ} → w' .first o ≡ w .first o → w' .last o ≡ w .last o → w' .answer o ≡ w .answer o → w' .read o ≡ w .read o → w' .found o ≡ w .found o → w' .exch o ≡ w .exch o → w' .target o ≡ w .target o → w' .used o ≡ w .used o → Alone w w' o
@@ -133,12 +133,13 @@ record Shots : Type 0 where
   size : ℕ → ℕ
   ann : ℕ → ℕ
   closed : ℕ → ℕ
+  fixed : ℕ → ℕ
   cell : ℕ → ℕ → ℕ
   seen : ℕ → ℕ → ℕ
   held : ℕ → ℕ → ℕ
 
 abbrev shotsOf : World → Shots
-shotsOf w = record { cur = w .cur; flag = w .flag; size = w .size; ann = w .ann; closed = w .closed; cell = w .cell; seen = w .seen; held = w .held }
+shotsOf w = record { cur = w .cur; flag = w .flag; size = w .size; ann = w .ann; closed = w .closed; fixed = w .fixed; cell = w .cell; seen = w .seen; held = w .held }
 
 module _ (x : ℕ) (w w' : World) where
   -- what an operation uses, and a thread's values, may change where it is the one that steps
@@ -171,7 +172,7 @@ module _ (x : ℕ) (w w' : World) where
       let cur = ap (λ (m : Shots). m .cur) e in
       record {
         cur = omega arith;
-        ages = λ s k. ages-same s (ap (λ (m : Shots). m .ann s) e) (ap (λ (m : Shots). m .flag s) e) (ap (λ (m : Shots). m .closed s) e) (ap (λ (m : Shots). m .held s) e) (ap (λ (m : Shots). m .cell s) e) (ap (λ (m : Shots). m .size s) e) (ap (λ (m : Shots). m .seen s) e);
+        ages = λ s k. ages-same s (ap (λ (m : Shots). m .ann s) e) (ap (λ (m : Shots). m .flag s) e) (ap (λ (m : Shots). m .closed s) e) (ap (λ (m : Shots). m .held s) e) (ap (λ (m : Shots). m .cell s) e) (ap (λ (m : Shots). m .size s) e) (ap (λ (m : Shots). m .seen s) e) (ap (λ (m : Shots). m .fixed s) e);
         new = λ s h i. absurd (omega arith);
       }
 
@@ -252,7 +253,7 @@ module _ (x t o : ℕ) (w : World) where
   takes-write s q v up =
       record {
         cur = omega arith;
-        ages = λ s' k. ages-but refl refl refl refl (rises s') (λ b. (refl, refl));
+        ages = λ s' k. ages-but refl refl refl refl (rises s') (λ b. (refl, refl, refl));
         new = λ s' h i. absurd (omega arith);
       }
     where
@@ -278,13 +279,13 @@ module _ (x t o : ℕ) (w : World) where
     where
       old : (s : ℕ) → s ≢ suc (w .cur) → Ages x w (announce w) s
       old s n =
-          ages-same s (put-other _ _ _ s n) (put-other _ _ _ s n) (put-other _ _ _ s n) refl (put-other _ _ _ s n) (put-other _ _ _ s n) (put-other _ _ _ s n)
+          ages-same s (put-other _ _ _ s n) (put-other _ _ _ s n) (put-other _ _ _ s n) refl (put-other _ _ _ s n) (put-other _ _ _ s n) (put-other _ _ _ s n) (put-other _ _ _ s n)
 
   takes-fix : (s v : ℕ) → w .size s ≡ invalid → Takes x w (fix s v t o w)
   takes-fix s v unfixed =
       record {
         cur = omega arith;
-        ages = λ s' k. ages-but refl refl refl refl (cells-same refl) (λ b. (put-other _ _ _ s' (other s' b), put-other _ _ _ s' (other s' b)));
+        ages = λ s' k. ages-but refl refl refl refl (cells-same refl) (λ b. (put-other _ _ _ s' (other s' b), put-other _ _ _ s' (other s' b), put-other _ _ _ s' (other s' b)));
         new = λ s' h i. absurd (omega arith);
       }
     where
@@ -319,7 +320,7 @@ module _ {T n x t o : ℕ} {w : World} (core : Core T n x w) (now : Acting T n x
             cell = cells-same refl;
             held = λ h. absurd (omega arith);
             holds = λ z h q b. omega (arith, ap (λ (c : ℕ → ℕ). c q) held);
-            size = λ b. (refl, refl);
+            size = λ b. (refl, refl, refl);
           }
 
       again : w .flag s ≡ false → Ages x w (lower s t w) s
@@ -327,12 +328,12 @@ module _ {T n x t o : ℕ} {w : World} (core : Core T n x w) (now : Acting T n x
           ages-same s refl (put-same _ _ _ ∙ sym f)
           (put-same _ _ _ ∙ ap (λ (b : Bool). cond b (w .clock) (w .closed s)) f)
           (put-same _ _ _ ∙ ap (λ (b : Bool). cond b (w .cell s) (w .held s)) f)
-          refl refl refl
+          refl refl refl refl
 
       aged : (s' : ℕ) → Known w s' → Dec (s' ≡ s) → Ages x w (lower s t w) s'
       aged s' k (yes e) =
           rw e (test-case (λ b. w .flag s ≡ b → Ages x w (lower s t w) s) (w .flag s) (λ z f. closing (rw e at k) f) (λ z f. again f) refl)
-      aged s' k (no z) = ages-same s' refl (put-other _ _ _ s' z) (put-other _ _ _ s' z) (put-other _ _ _ s' z) refl refl refl
+      aged s' k (no z) = ages-same s' refl (put-other _ _ _ s' z) (put-other _ _ _ s' z) (put-other _ _ _ s' z) refl refl refl refl
 
   -- a counter comes to the next target, which is its thread's current operation's
   counts-raise : (u : Update) → RaisesNow w u → Counts x w (raise (updateOp u) (updateCell u) (updateTarget u) w)

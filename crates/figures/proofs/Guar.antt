@@ -76,6 +76,7 @@ pub record FixesNow (T : ℕ) (w : World) (t o s v : ℕ) : Type 0 where
   pub summing : Summing T w t o s (T + T)
   pub unfixed : w .size s ≡ invalid
   pub sum : v ≡ total (w .mine t)
+  pub valid : v ≢ invalid
 
 abbrev pub GuarUpdate : World → UpdateDeed → Update → Type 0
 GuarUpdate w Reads u = Unit {0}

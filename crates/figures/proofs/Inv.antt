@@ -91,6 +91,7 @@ total f = (sumBy Insertion f 8 - sumBy Deletion f 8) % 2 ^ 32
 
 pub record Fixed (T : ℕ) (w : World) (s : ℕ) : Type 0 where
   pub closed : 0 < w .closed s
+  pub after : w .closed s < w .fixed s
   pub sum : w .size s ≡ total (w .seen s)
   pub reads : (q : ℕ) → q < T + T → ReadFor w s q (w .seen s q)
   pub rest : (q : ℕ) → T + T ≤ q → w .seen s q ≡ 0
@@ -113,9 +114,12 @@ pub record Snaps (T x : ℕ) (w : World) : Type 0 where
   pub whole : (s : ℕ) → Known w s → 0 < w .closed s → (q : ℕ) → q < T + T → w .cell s q ≢ invalid
   pub fair : (s : ℕ) → Known w s → (q : ℕ) → q < T + T → w .cell s q ≢ invalid → Fair w s q (w .cell s q)
   pub kept : (s : ℕ) → Known w s → 0 < w .closed s → (q : ℕ) → q < T + T → w .held s q ≤ w .cell s q
+  -- a snapshot has a step of fixing, after its closing, exactly when its size is not INVALID
   pub fixed : (s : ℕ) → Known w s → w .size s ≢ invalid → Fixed T w s
+  pub valid : (s : ℕ) → Known w s → 0 < w .fixed s → w .size s ≢ invalid
+  pub dated : (s : ℕ) → Known w s → w .fixed s ≤ x
 
--- an update's window is the one snapshot that was being collected at its raising, 0 if there was none
+-- an update's window is the one snapshot that was announced and not closed at its raising, 0 if there was none
 pub record InWindow (w : World) (u s : ℕ) : Type 0 where
   pub known : Known w s
   pub after : w .ann s ≤ w .raised u

@@ -165,10 +165,6 @@ and-second false p = refl
 pub or-first : {a : Bool} (b : Bool) → a ≡ true → (a || b) ≡ true
 or-first b p = rw p
 
-pub or-second : (a : Bool) {b : Bool} → b ≡ true → (a || b) ≡ true
-or-second true p = refl
-or-second false p = p
-
 pub or-neither : {a b : Bool} → a ≡ false → b ≡ false → (a || b) ≡ false
 or-neither p q = rw (p, q)
 

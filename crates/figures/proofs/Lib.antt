@@ -1,4 +1,5 @@
 pub mod Laws
+pub mod Codec
 pub mod Runs
 pub mod Shape
 pub mod Frame
@@ -10,7 +11,6 @@ pub mod Ranks
 pub mod Sizes
 pub mod Counted
 pub mod Ranges
-pub mod Limited
 pub mod World
 pub mod Inv
 pub mod Grows
@@ -37,11 +37,18 @@ pub mod OwnSize
 pub mod OwnSet
 pub mod Pass
 pub mod Main
-pub mod PlaceNumbers
+pub mod Sums
+pub mod Limited
 pub mod PlaceUpdates
 pub mod PlaceStands
 pub mod PlaceKeys
-pub mod PlaceAny
 pub mod PlaceSizes
 pub mod Conclude
 pub mod Demand
+pub mod Events
+pub mod Struck
+pub mod Told
+pub mod SizeMoves
+pub mod SumReads
+pub mod Summed
+pub mod Rules

@@ -9,6 +9,7 @@ use native.Mathlib.Nat.{le-refl}
 use native.Mathlib.Decide.{ℕ-discrete, decLt}
 use lib.ListN.{length, getD, List·getD-eq-default}
 use borrow.Author.Tests.{lt-ltb, ne-eqb}
+use Rattle.history.proofs.Turns.{owned-apart}
 use Rattle.terms.specs.declared.ThreadId.{ThreadId}
 use Rattle.terms.specs.declared.OpId.{OpId}
 use Rattle.figures.specs.declared.Cell.{Cell}
@@ -40,7 +41,7 @@ use Rattle.figures.proofs.Frame.{Moving, stands, Stands, opOf, endOf, p
 use Rattle.figures.proofs.Frame.Stands.{between, inside}
 use Rattle.figures.specs.Counts.{Within, opsBefore, isAnnouncing, isAnnouncement}
 use Rattle.figures.specs.Start.{startOf}
-use Rattle.figures.proofs.Begin.{Owned, owned-apart, before-grows, start-record}
+use Rattle.figures.proofs.Begin.{Owned, before-grows, start-record}
 use Rattle.figures.proofs.Runs.{step-case}
 use Rattle.figures.proofs.Sound.{Sound, few-ops, run-keeps-within}
 use Rattle.figures.proofs.Sizes.{current-small, current-counts, announced-step}
@@ -48,10 +49,10 @@ use Rattle.figures.proofs.Counted.{Facts, facts-start, facts-step}
 use Rattle.figures.proofs.Threads.{Threads}
 use Rattle.figures.proofs.World.{World, put, put-same, put-other, put-case, thr, key, call, noOf, updateOp, tick, act, onward, update, compute}
 use Rattle.figures.proofs.Inv.{Core, Knows, Inv, Noted}
-use Rattle.figures.proofs.Grows.{Grows}
+use Rattle.figures.proofs.Grows.{Alone, Still, Grows}
 use Rattle.figures.proofs.Growth.{grows-tick, grows-act, grows-onward}
 use Rattle.figures.proofs.Stable.{thr-grows, knows-grows}
-use Rattle.figures.proofs.Guar.{Acting, Guar}
+use Rattle.figures.proofs.Guar.{Acting, Guar, ReturnsNow}
 use Rattle.figures.proofs.Touch.{Going}
 use Rattle.figures.proofs.RecordsKept.{records-tick, records-act, records-onward}
 use Rattle.figures.proofs.CountersKept.{counters-tick, counters-act, counters-onward}
@@ -122,7 +123,7 @@ module _ {T n x : ℕ} {w : World} (core : Core T n x w) where
       }
 
 -- a deed leaves the clock, and which operation a thread is in, and first steps
-act-clock : (d : Deed) (t o : ℕ) (w : World) → (act d t o w .clock ≡ w .clock) × (act d t o w .op ≡ w .op) × (act d t o w .first ≡ w .first)
+pub act-clock : (d : Deed) (t o : ℕ) (w : World) → (act d t o w .clock ≡ w .clock) × (act d t o w .op ≡ w .op) × (act d t o w .first ≡ w .first)
 act-clock Rests t o w = (refl, refl, refl)
 act-clock (Finds c) t o w = (refl, refl, refl)
 act-clock (Links d) t o w = (refl, refl, refl)
@@ -146,7 +147,7 @@ onward-clock (Returns a) t o w = refl
 -- ---- A thread that is inside an operation keeps what it knows when the step is counted.
 
 abbrev started : World → (ℕ → ℕ) → World
-started w f = record { clock = suc (w .clock); asked = w .asked; first = f; last = w .last; answer = w .answer; read = w .read; found = w .found; exch = w .exch; target = w .target; raised = w .raised; window = w .window; used = w .used; op = w .op; point = w .point; mine = w .mine; count = w .count; cur = w .cur; flag = w .flag; size = w .size; ann = w .ann; closed = w .closed; cell = w .cell; seen = w .seen; held = w .held; content = w .content }
+started w f = record { clock = suc (w .clock); asked = w .asked; first = f; last = w .last; answer = w .answer; read = w .read; found = w .found; exch = w .exch; target = w .target; raised = w .raised; window = w .window; used = w .used; op = w .op; point = w .point; mine = w .mine; count = w .count; cur = w .cur; flag = w .flag; size = w .size; ann = w .ann; closed = w .closed; fixed = w .fixed; cell = w .cell; seen = w .seen; held = w .held; content = w .content }
 
 tick-pass : (w : World) (o : ℕ) → 0 < w .first o → tick o w ≡ pass w
 tick-pass w o h = ap (started w) (fun-ext (λ a. put-case (λ y. y ≡ w .first a) (w .first) o _ a (λ e. rw (ne-eqb (w .first o) 0 (λ z. omega arith)) (ap (w .first) (sym e))) (λ e. refl)))
@@ -179,6 +180,30 @@ pub record Standing (T n : ℕ) (counts : List ℕ) (m : Machine) : Type 0 where
   pub room : m .calculator .current .0 ≤ 64
   pub keyed : (o : ℕ) → o < n → recordAt m (record { 0 = o }) .asked .key < 16
 
+-- a step of thread t from m to m', as the world has it: an access, with what the thread knows of it, or an idle step
+pub record Acts (T n : ℕ) (m : Machine) (t : ℕ) (m' : Machine) : Type 0 where
+  pub left : opOf m t < endOf m t
+  pub room : m .calculator .current .0 ≤ 64
+  pub held : ℕ → ℕ → ℕ
+  pub held' : ℕ → ℕ → ℕ
+  pub before : Inv T n (m .clock) (worldOf m held)
+  pub acting : Acting T n (m .clock) (tick (opOf m t) (worldOf m held)) t (opOf m t)
+  pub guar : Guar T (m .clock) (tick (opOf m t) (worldOf m held)) t (opOf m t) (moveOf m (record { 0 = t }) .deed)
+  pub returns : (a : ℕ) → moveOf m (record { 0 = t }) .next ≡ Returns a
+      → ReturnsNow (suc (m .clock)) (act (moveOf m (record { 0 = t }) .deed) t (opOf m t) (tick (opOf m t) (worldOf m held))) (opOf m t) a
+  -- what is asked stays; other operations, and other threads, are left alone
+  pub asked : worldOf m' held' .asked ≡ worldOf m held .asked
+  pub alone : (q : ℕ) → q ≢ opOf m t → Alone (worldOf m held) (worldOf m' held') q
+  pub still : (q : ℕ) → q ≢ t → Still (worldOf m held) (worldOf m' held') q
+  pub after : worldOf m' held'
+      ≡ onward (moveOf m (record { 0 = t }) .next) t (opOf m t) (act (moveOf m (record { 0 = t }) .deed) t (opOf m t) (tick (opOf m t) (worldOf m held)))
+
+pub record Idles (T n : ℕ) (m : Machine) (t : ℕ) (m' : Machine) : Type 0 where
+  pub none : endOf m t ≤ opOf m t
+  pub held : ℕ → ℕ → ℕ
+  pub before : Inv T n (m .clock) (worldOf m held)
+  pub after : worldOf m' held ≡ pass (worldOf m held)
+
 module _ {T n : ℕ} {counts : List ℕ} {m : Machine} (s : Standing T n counts m) (g : ℕ → ℕ → ℕ) (i : Inv T n (m .clock) (worldOf m g)) where
   abbrev w : World
   w = worldOf m g
@@ -189,7 +214,7 @@ module _ {T n : ℕ} {counts : List ℕ} {m : Machine} (s : Standing T n counts 
     where
       go : Dec (thr w o ≡ t) → thr w o ≡ t
       go (yes e) = e
-      go (no e) = absurd (owned-apart h (s .owners .whose o (omega (arith, s .all))) e refl)
+      go (no e) = absurd (owned-apart (before-grows counts) h (s .owners .whose o (omega (arith, s .all))) e refl)
 
   -- a thread that is inside an operation
   module _ (t : ℕ) (tl : t < 8) (l : opOf m t < endOf m t) where
@@ -369,7 +394,7 @@ module _ {T n : ℕ} {counts : List ℕ} {m : Machine} (s : Standing T n counts 
       elsewhere (between e) = rw (point₂ ∙ e) tt
       elsewhere (inside h) =
           let b = s .owners .begun a al h in
-          let e : w .op a ≢ o = owned-apart (owned-here t tl l) (owned-here a al (b .0)) other in
+          let e : w .op a ≢ o = owned-apart (before-grows counts) (owned-here t tl l) (owned-here a al (b .0)) other in
           let f = s .owners .first-past (w .op a) in
           let y = grows₁ .still a other in
           let z = grows-onward (suc x) nx t o w₁ .still a other in
@@ -421,6 +446,47 @@ module _ {T n : ℕ} {counts : List ℕ} {m : Machine} (s : Standing T n counts 
         let c : accessed m t' .clock ≡ suc x = ap (λ (a : World). a .clock) e ∙ onward-clock nx t o w₁ ∙ clock₁ in
         (w₁ .held, subst (λ (a : ℕ). Inv T n a (worldOf (accessed m t') (w₁ .held))) (sym c) (subst (λ (a : World). Inv T n (suc x) a) (sym e) inv₂))
 
+    -- the step as the world has it, and what the thread knows of its deed
+    alone₂ : (q : ℕ) → q ≢ o → Alone w w₂ q
+    alone₂ q e =
+        let a = grows-tick x t o w .alone q e in
+        let b = grows₁ .alone q e in
+        let c = grows-onward (suc x) nx t o w₁ .alone q e in
+        record {
+          first = c .first ∙ b .first ∙ a .first;
+          last = c .last ∙ b .last ∙ a .last;
+          answer = c .answer ∙ b .answer ∙ a .answer;
+          read = c .read ∙ b .read ∙ a .read;
+          found = c .found ∙ b .found ∙ a .found;
+          exch = c .exch ∙ b .exch ∙ a .exch;
+          target = c .target ∙ b .target ∙ a .target;
+          used = c .used ∙ b .used ∙ a .used;
+        }
+
+    still₂ : (q : ℕ) → q ≢ t → Still w w₂ q
+    still₂ q e =
+        let b = grows₁ .still q e in
+        let c = grows-onward (suc x) nx t o w₁ .still q e in
+        record { op = c .op ∙ b .op; point = c .point ∙ b .point; mine = c .mine ∙ b .mine }
+
+    pub acts : (isAnnouncement d ≡ true → m .calculator .current .0 < 64) → Acts T n m t (accessed m t')
+    acts r =
+        let e = world-accessed m g (s .shape) t' (omega (arith, s .clock)) (record { thread = tl; op = omega (arith, inside-here t tl l, s .small); deed = deed-range d r (branch .guar) }) in
+        record {
+          left = l;
+          room = s .room;
+          held = g;
+          held' = w₁ .held;
+          before = i;
+          acting = acting;
+          guar = branch .guar;
+          returns = λ a e. subst (λ (y : Next). Onward T (suc x) w₁ t o y) e (branch .onward);
+          asked = ap (λ (y : World). y .asked) e ∙ grows-onward (suc x) nx t o w₁ .asked ∙ grows₁ .asked;
+          alone = λ q k. subst (λ (y : World). Alone w y q) (sym e) (alone₂ q k);
+          still = λ q k. subst (λ (y : World). Still w y q) (sym e) (still₂ q k);
+          after = e;
+        }
+
   -- ---- A thread with no operation left steps.
 
   pub inv-idled : Inv T n (idled m .clock) (worldOf (idled m) g)
@@ -443,10 +509,10 @@ module _ (threads keys : ℕ) (counts ops schedule : List ℕ) (within : Within 
   abbrev start : Machine
   start = startOf threads keys counts ops
 
-  record Held (s : List ℕ) (m : Machine) : Type 0 where
-    facts : Facts start counts s m
-    held : ℕ → ℕ → ℕ
-    inv : Inv threads (length ops) (m .clock) (worldOf m held)
+  pub record Held (s : List ℕ) (m : Machine) : Type 0 where
+    pub facts : Facts start counts s m
+    pub held : ℕ → ℕ → ℕ
+    pub inv : Inv threads (length ops) (m .clock) (worldOf m held)
 
   standing : (s : List ℕ) (m : Machine) → length s < 4096 → Sound threads counts s m → Facts start counts s m → Standing threads (length ops) counts m
   standing s m l d f =
@@ -467,7 +533,7 @@ module _ (threads keys : ℕ) (counts ops schedule : List ℕ) (within : Within 
           let e = f .asked o ∙ ap (λ (r : Record). r .asked) (start-record counts threads keys ops o (within .most-operations) h) in
           rw (ap (λ (a : Asked). a .key) e) (omega (arith, within .keyed o h, within .most-keys))
 
-  held-start : Held [] start
+  pub held-start : Held [] start
   held-start =
       record {
         facts = facts-start threads keys counts ops schedule within;
@@ -475,26 +541,43 @@ module _ (threads keys : ℕ) (counts ops schedule : List ℕ) (within : Within 
         inv = unfold startOf in start-inv threads keys counts ops (λ s q. 0) (length ops);
       }
 
-  held-step : (s : List ℕ) (t : ℕ) (m : Machine) → m ≡ runOf start s → length s < 4096 → t < threads → Sound threads counts s m → Held s m → Held (s ++ t ∷ []) (stepOf m (record { 0 = t }))
+  -- there is room for one snapshot more when one is announced
+  room : (s : List ℕ) (t : ℕ) (m : Machine) → length s < 4096 → Sound threads counts s m → Facts start counts s m
+      → opOf m t < endOf m t → isAnnouncement (moveOf m (record { 0 = t }) .deed) ≡ true → m .calculator .current .0 < 64
+  room s t m l d f a b =
+      let few = few-ops threads keys counts ops schedule within in
+      let c : m .clock < 4096 = omega (arith, d .clock) in
+      let r = f .ranks in
+      let y = f .announced in
+      let q = current-counts counts few threads (within .some-threads) (within .most-threads) s m d r c y (record { 0 = t }) a in
+      let p = current-small counts (stepOf m (record { 0 = t })) (announced-step counts few threads (within .some-threads) (within .most-threads) s m d r c y (record { 0 = t })) in
+      omega (arith, rw b at q, ap (λ (x : Machine). x .calculator .current .0) (step-acts m t a), p)
+
+  pub held-step : (s : List ℕ) (t : ℕ) (m : Machine) → m ≡ runOf start s → length s < 4096 → t < threads → Sound threads counts s m → Held s m → Held (s ++ t ∷ []) (stepOf m (record { 0 = t }))
   held-step s t m e l h d k =
       let f = facts-step threads keys counts ops schedule within s t m e l h d (k .facts) in
       let i = step-case (λ (x : Machine). x ≡ stepOf m (record { 0 = t }) → (g : ℕ → ℕ → ℕ) × Inv threads (length ops) (x .clock) (worldOf x g)) m (record { 0 = t })
-      (λ a z. inv-accessed (standing s m l d (k .facts)) (k .held) (k .inv) t h a (λ b. room a b))
+      (λ a z. inv-accessed (standing s m l d (k .facts)) (k .held) (k .inv) t h a (room s t m l d (k .facts) a))
       (λ a z. (k .held, inv-idled (standing s m l d (k .facts)) (k .held) (k .inv))) refl in
       record { facts = f; held = i .0; inv = i .1 }
-    where
-      few : opsBefore counts 8 ≤ 64
-      few = few-ops threads keys counts ops schedule within
-
-      room : opOf m t < endOf m t → isAnnouncement (moveOf m (record { 0 = t }) .deed) ≡ true → m .calculator .current .0 < 64
-      room a b =
-          let c : m .clock < 4096 = omega (arith, d .clock) in
-          let r = k .facts .ranks in
-          let y = k .facts .announced in
-          let q = current-counts counts few threads (within .some-threads) (within .most-threads) s m d r c y (record { 0 = t }) a in
-          let p = current-small counts (stepOf m (record { 0 = t })) (announced-step counts few threads (within .some-threads) (within .most-threads) s m d r c y (record { 0 = t })) in
-          omega (arith, rw b at q, ap (λ (x : Machine). x .calculator .current .0) (step-acts m t a), p)
 
   -- what holds of the state at the end of the run
   pub inv-run : (g : ℕ → ℕ → ℕ) × Inv threads (length ops) (runOf start schedule .clock) (worldOf (runOf start schedule) g)
   inv-run = let k = run-keeps-within threads keys counts ops schedule within Held held-step held-start .1 in (k .held, k .inv)
+
+  -- what holds at the start and is kept by each step, as the world has it, holds at the end of the run
+  pub run-world : (I : List ℕ → Machine → Type 0)
+      → ((s : List ℕ) (t : ℕ) (m m' : Machine) → m ≡ runOf start s → t < threads → Sound threads counts s m
+      → Acts threads (length ops) m t m' ⊎ Idles threads (length ops) m t m' → I s m → I (s ++ t ∷ []) m')
+      → I [] start → I schedule (runOf start schedule)
+  run-world I step i =
+      run-keeps-within threads keys counts ops schedule within (λ s m. Held s m × I s m)
+      (λ s t m e l h d k. (held-step s t m e l h d (k .0), step s t m (stepOf m (record { 0 = t })) e h d (stepped s t m l h d (k .0)) (k .1)))
+      (held-start, i) .1 .1
+    where
+      stepped : (s : List ℕ) (t : ℕ) (m : Machine) → length s < 4096 → t < threads → Sound threads counts s m → Held s m
+          → Acts threads (length ops) m t (stepOf m (record { 0 = t })) ⊎ Idles threads (length ops) m t (stepOf m (record { 0 = t }))
+      stepped s t m l h d k =
+          step-case (λ (x : Machine). Acts threads (length ops) m t x ⊎ Idles threads (length ops) m t x) m (record { 0 = t })
+          (λ a. inl (acts (standing s m l d (k .facts)) (k .held) (k .inv) t h a (room s t m l d (k .facts) a)))
+          (λ a. inr (record { none = a; held = k .held; before = k .inv; after = world-idled m (k .held) (d .shape) (omega (arith, d .clock)) }))

@@ -92,6 +92,7 @@ worldOf m g =
       size = λ s. getD (m .calculator .snapshots) s noSnapshot .size;
       ann = λ s. getD (m .calculator .traces) s noTrace .announced;
       closed = λ s. getD (m .calculator .traces) s noTrace .closed;
+      fixed = λ s. getD (m .calculator .traces) s noTrace .fixed;
       cell = λ s. block (getD (m .calculator .snapshots) s noSnapshot .cells);
       seen = λ s. block (getD (m .calculator .traces) s noTrace .seen);
       held = g;
@@ -165,50 +166,50 @@ block-fresh = fun-ext (block-new invalid)
 -- ---- What the machine's writes are in the world.
 
 abbrev putRecord : ℕ → Record → World → World
-putRecord o r w = record { clock = w .clock; asked = put (w .asked) o (r .asked); first = put (w .first) o (r .outcome .first); last = put (w .last) o (r .outcome .last); answer = put (w .answer) o (r .outcome .answer); read = put (w .read) o (r .look .read); found = put (w .found) o (r .look .found); exch = put (w .exch) o (r .change .exchanged); target = put (w .target) o (r .change .target .0); raised = put (w .raised) o (r .change .raised); window = put (w .window) o (r .change .window .0); used = put (w .used) o (r .snapshot .0); op = w .op; point = w .point; mine = w .mine; count = w .count; cur = w .cur; flag = w .flag; size = w .size; ann = w .ann; closed = w .closed; cell = w .cell; seen = w .seen; held = w .held; content = w .content }
+putRecord o r w = record { clock = w .clock; asked = put (w .asked) o (r .asked); first = put (w .first) o (r .outcome .first); last = put (w .last) o (r .outcome .last); answer = put (w .answer) o (r .outcome .answer); read = put (w .read) o (r .look .read); found = put (w .found) o (r .look .found); exch = put (w .exch) o (r .change .exchanged); target = put (w .target) o (r .change .target .0); raised = put (w .raised) o (r .change .raised); window = put (w .window) o (r .change .window .0); used = put (w .used) o (r .snapshot .0); op = w .op; point = w .point; mine = w .mine; count = w .count; cur = w .cur; flag = w .flag; size = w .size; ann = w .ann; closed = w .closed; fixed = w .fixed; cell = w .cell; seen = w .seen; held = w .held; content = w .content }
 
 world-record : (m : Machine) (g : ℕ → ℕ → ℕ) (o : OpId) (r : Record) → o .0 < length (m .records) → worldOf (withRecord o r m) g ≡ putRecord (o .0) r (worldOf m g)
-world-record m g o r h = λ i. record { clock = worldOf m g .clock; asked = set-put (λ (x : Record). x .asked) (m .records) (o .0) r noRecord h i; first = set-put (λ (x : Record). x .outcome .first) (m .records) (o .0) r noRecord h i; last = set-put (λ (x : Record). x .outcome .last) (m .records) (o .0) r noRecord h i; answer = set-put (λ (x : Record). x .outcome .answer) (m .records) (o .0) r noRecord h i; read = set-put (λ (x : Record). x .look .read) (m .records) (o .0) r noRecord h i; found = set-put (λ (x : Record). x .look .found) (m .records) (o .0) r noRecord h i; exch = set-put (λ (x : Record). x .change .exchanged) (m .records) (o .0) r noRecord h i; target = set-put (λ (x : Record). x .change .target .0) (m .records) (o .0) r noRecord h i; raised = set-put (λ (x : Record). x .change .raised) (m .records) (o .0) r noRecord h i; window = set-put (λ (x : Record). x .change .window .0) (m .records) (o .0) r noRecord h i; used = set-put (λ (x : Record). x .snapshot .0) (m .records) (o .0) r noRecord h i; op = worldOf m g .op; point = worldOf m g .point; mine = worldOf m g .mine; count = worldOf m g .count; cur = worldOf m g .cur; flag = worldOf m g .flag; size = worldOf m g .size; ann = worldOf m g .ann; closed = worldOf m g .closed; cell = worldOf m g .cell; seen = worldOf m g .seen; held = worldOf m g .held; content = worldOf m g .content }
+world-record m g o r h = λ i. record { clock = worldOf m g .clock; asked = set-put (λ (x : Record). x .asked) (m .records) (o .0) r noRecord h i; first = set-put (λ (x : Record). x .outcome .first) (m .records) (o .0) r noRecord h i; last = set-put (λ (x : Record). x .outcome .last) (m .records) (o .0) r noRecord h i; answer = set-put (λ (x : Record). x .outcome .answer) (m .records) (o .0) r noRecord h i; read = set-put (λ (x : Record). x .look .read) (m .records) (o .0) r noRecord h i; found = set-put (λ (x : Record). x .look .found) (m .records) (o .0) r noRecord h i; exch = set-put (λ (x : Record). x .change .exchanged) (m .records) (o .0) r noRecord h i; target = set-put (λ (x : Record). x .change .target .0) (m .records) (o .0) r noRecord h i; raised = set-put (λ (x : Record). x .change .raised) (m .records) (o .0) r noRecord h i; window = set-put (λ (x : Record). x .change .window .0) (m .records) (o .0) r noRecord h i; used = set-put (λ (x : Record). x .snapshot .0) (m .records) (o .0) r noRecord h i; op = worldOf m g .op; point = worldOf m g .point; mine = worldOf m g .mine; count = worldOf m g .count; cur = worldOf m g .cur; flag = worldOf m g .flag; size = worldOf m g .size; ann = worldOf m g .ann; closed = worldOf m g .closed; fixed = worldOf m g .fixed; cell = worldOf m g .cell; seen = worldOf m g .seen; held = worldOf m g .held; content = worldOf m g .content }
 
 abbrev putLocal : ℕ → ℕ → Point → (ℕ → ℕ) → World → World
-putLocal t op' point' mine' w = record { clock = w .clock; asked = w .asked; first = w .first; last = w .last; answer = w .answer; read = w .read; found = w .found; exch = w .exch; target = w .target; raised = w .raised; window = w .window; used = w .used; op = put (w .op) t op'; point = put (w .point) t point'; mine = put (w .mine) t mine'; count = w .count; cur = w .cur; flag = w .flag; size = w .size; ann = w .ann; closed = w .closed; cell = w .cell; seen = w .seen; held = w .held; content = w .content }
+putLocal t op' point' mine' w = record { clock = w .clock; asked = w .asked; first = w .first; last = w .last; answer = w .answer; read = w .read; found = w .found; exch = w .exch; target = w .target; raised = w .raised; window = w .window; used = w .used; op = put (w .op) t op'; point = put (w .point) t point'; mine = put (w .mine) t mine'; count = w .count; cur = w .cur; flag = w .flag; size = w .size; ann = w .ann; closed = w .closed; fixed = w .fixed; cell = w .cell; seen = w .seen; held = w .held; content = w .content }
 
 world-local : (m : Machine) (g : ℕ → ℕ → ℕ) (t : ThreadId) (r : Local) → t .0 < length (m .locals) → worldOf (withLocal t r m) g ≡ putLocal (t .0) (r .op .0) (r .point) (block (r .seen)) (worldOf m g)
-world-local m g t r h = λ i. record { clock = worldOf m g .clock; asked = worldOf m g .asked; first = worldOf m g .first; last = worldOf m g .last; answer = worldOf m g .answer; read = worldOf m g .read; found = worldOf m g .found; exch = worldOf m g .exch; target = worldOf m g .target; raised = worldOf m g .raised; window = worldOf m g .window; used = worldOf m g .used; op = set-put (λ (x : Local). x .op .0) (m .locals) (t .0) r noLocal h i; point = set-put (λ (x : Local). x .point) (m .locals) (t .0) r noLocal h i; mine = set-put (λ (x : Local). block (x .seen)) (m .locals) (t .0) r noLocal h i; count = worldOf m g .count; cur = worldOf m g .cur; flag = worldOf m g .flag; size = worldOf m g .size; ann = worldOf m g .ann; closed = worldOf m g .closed; cell = worldOf m g .cell; seen = worldOf m g .seen; held = worldOf m g .held; content = worldOf m g .content }
+world-local m g t r h = λ i. record { clock = worldOf m g .clock; asked = worldOf m g .asked; first = worldOf m g .first; last = worldOf m g .last; answer = worldOf m g .answer; read = worldOf m g .read; found = worldOf m g .found; exch = worldOf m g .exch; target = worldOf m g .target; raised = worldOf m g .raised; window = worldOf m g .window; used = worldOf m g .used; op = set-put (λ (x : Local). x .op .0) (m .locals) (t .0) r noLocal h i; point = set-put (λ (x : Local). x .point) (m .locals) (t .0) r noLocal h i; mine = set-put (λ (x : Local). block (x .seen)) (m .locals) (t .0) r noLocal h i; count = worldOf m g .count; cur = worldOf m g .cur; flag = worldOf m g .flag; size = worldOf m g .size; ann = worldOf m g .ann; closed = worldOf m g .closed; fixed = worldOf m g .fixed; cell = worldOf m g .cell; seen = worldOf m g .seen; held = worldOf m g .held; content = worldOf m g .content }
 
 abbrev putSnapshot : ℕ → Bool → ℕ → (ℕ → ℕ) → World → World
-putSnapshot n flag' size' cell' w = record { clock = w .clock; asked = w .asked; first = w .first; last = w .last; answer = w .answer; read = w .read; found = w .found; exch = w .exch; target = w .target; raised = w .raised; window = w .window; used = w .used; op = w .op; point = w .point; mine = w .mine; count = w .count; cur = w .cur; flag = put (w .flag) n flag'; size = put (w .size) n size'; ann = w .ann; closed = w .closed; cell = put (w .cell) n cell'; seen = w .seen; held = w .held; content = w .content }
+putSnapshot n flag' size' cell' w = record { clock = w .clock; asked = w .asked; first = w .first; last = w .last; answer = w .answer; read = w .read; found = w .found; exch = w .exch; target = w .target; raised = w .raised; window = w .window; used = w .used; op = w .op; point = w .point; mine = w .mine; count = w .count; cur = w .cur; flag = put (w .flag) n flag'; size = put (w .size) n size'; ann = w .ann; closed = w .closed; fixed = w .fixed; cell = put (w .cell) n cell'; seen = w .seen; held = w .held; content = w .content }
 
 world-snapshot : (m : Machine) (g : ℕ → ℕ → ℕ) (n : SnapshotId) (r : Snapshot) → n .0 < length (m .calculator .snapshots) → worldOf (calculated (withSnapshot n r) m) g ≡ putSnapshot (n .0) (r .collecting) (r .size) (block (r .cells)) (worldOf m g)
-world-snapshot m g n r h = λ i. record { clock = worldOf m g .clock; asked = worldOf m g .asked; first = worldOf m g .first; last = worldOf m g .last; answer = worldOf m g .answer; read = worldOf m g .read; found = worldOf m g .found; exch = worldOf m g .exch; target = worldOf m g .target; raised = worldOf m g .raised; window = worldOf m g .window; used = worldOf m g .used; op = worldOf m g .op; point = worldOf m g .point; mine = worldOf m g .mine; count = worldOf m g .count; cur = worldOf m g .cur; flag = set-put (λ (x : Snapshot). x .collecting) (m .calculator .snapshots) (n .0) r noSnapshot h i; size = set-put (λ (x : Snapshot). x .size) (m .calculator .snapshots) (n .0) r noSnapshot h i; ann = worldOf m g .ann; closed = worldOf m g .closed; cell = set-put (λ (x : Snapshot). block (x .cells)) (m .calculator .snapshots) (n .0) r noSnapshot h i; seen = worldOf m g .seen; held = worldOf m g .held; content = worldOf m g .content }
+world-snapshot m g n r h = λ i. record { clock = worldOf m g .clock; asked = worldOf m g .asked; first = worldOf m g .first; last = worldOf m g .last; answer = worldOf m g .answer; read = worldOf m g .read; found = worldOf m g .found; exch = worldOf m g .exch; target = worldOf m g .target; raised = worldOf m g .raised; window = worldOf m g .window; used = worldOf m g .used; op = worldOf m g .op; point = worldOf m g .point; mine = worldOf m g .mine; count = worldOf m g .count; cur = worldOf m g .cur; flag = set-put (λ (x : Snapshot). x .collecting) (m .calculator .snapshots) (n .0) r noSnapshot h i; size = set-put (λ (x : Snapshot). x .size) (m .calculator .snapshots) (n .0) r noSnapshot h i; ann = worldOf m g .ann; closed = worldOf m g .closed; fixed = worldOf m g .fixed; cell = set-put (λ (x : Snapshot). block (x .cells)) (m .calculator .snapshots) (n .0) r noSnapshot h i; seen = worldOf m g .seen; held = worldOf m g .held; content = worldOf m g .content }
 
-abbrev putTrace : ℕ → ℕ → ℕ → (ℕ → ℕ) → World → World
-putTrace n ann' closed' seen' w = record { clock = w .clock; asked = w .asked; first = w .first; last = w .last; answer = w .answer; read = w .read; found = w .found; exch = w .exch; target = w .target; raised = w .raised; window = w .window; used = w .used; op = w .op; point = w .point; mine = w .mine; count = w .count; cur = w .cur; flag = w .flag; size = w .size; ann = put (w .ann) n ann'; closed = put (w .closed) n closed'; cell = w .cell; seen = put (w .seen) n seen'; held = w .held; content = w .content }
+abbrev putTrace : ℕ → ℕ → ℕ → ℕ → (ℕ → ℕ) → World → World
+putTrace n ann' closed' fixed' seen' w = record { clock = w .clock; asked = w .asked; first = w .first; last = w .last; answer = w .answer; read = w .read; found = w .found; exch = w .exch; target = w .target; raised = w .raised; window = w .window; used = w .used; op = w .op; point = w .point; mine = w .mine; count = w .count; cur = w .cur; flag = w .flag; size = w .size; ann = put (w .ann) n ann'; closed = put (w .closed) n closed'; fixed = put (w .fixed) n fixed'; cell = w .cell; seen = put (w .seen) n seen'; held = w .held; content = w .content }
 
-world-trace : (m : Machine) (g : ℕ → ℕ → ℕ) (n : SnapshotId) (r : Trace) → n .0 < length (m .calculator .traces) → worldOf (calculated (withTrace n r) m) g ≡ putTrace (n .0) (r .announced) (r .closed) (block (r .seen)) (worldOf m g)
-world-trace m g n r h = λ i. record { clock = worldOf m g .clock; asked = worldOf m g .asked; first = worldOf m g .first; last = worldOf m g .last; answer = worldOf m g .answer; read = worldOf m g .read; found = worldOf m g .found; exch = worldOf m g .exch; target = worldOf m g .target; raised = worldOf m g .raised; window = worldOf m g .window; used = worldOf m g .used; op = worldOf m g .op; point = worldOf m g .point; mine = worldOf m g .mine; count = worldOf m g .count; cur = worldOf m g .cur; flag = worldOf m g .flag; size = worldOf m g .size; ann = set-put (λ (x : Trace). x .announced) (m .calculator .traces) (n .0) r noTrace h i; closed = set-put (λ (x : Trace). x .closed) (m .calculator .traces) (n .0) r noTrace h i; cell = worldOf m g .cell; seen = set-put (λ (x : Trace). block (x .seen)) (m .calculator .traces) (n .0) r noTrace h i; held = worldOf m g .held; content = worldOf m g .content }
+world-trace : (m : Machine) (g : ℕ → ℕ → ℕ) (n : SnapshotId) (r : Trace) → n .0 < length (m .calculator .traces) → worldOf (calculated (withTrace n r) m) g ≡ putTrace (n .0) (r .announced) (r .closed) (r .fixed) (block (r .seen)) (worldOf m g)
+world-trace m g n r h = λ i. record { clock = worldOf m g .clock; asked = worldOf m g .asked; first = worldOf m g .first; last = worldOf m g .last; answer = worldOf m g .answer; read = worldOf m g .read; found = worldOf m g .found; exch = worldOf m g .exch; target = worldOf m g .target; raised = worldOf m g .raised; window = worldOf m g .window; used = worldOf m g .used; op = worldOf m g .op; point = worldOf m g .point; mine = worldOf m g .mine; count = worldOf m g .count; cur = worldOf m g .cur; flag = worldOf m g .flag; size = worldOf m g .size; ann = set-put (λ (x : Trace). x .announced) (m .calculator .traces) (n .0) r noTrace h i; closed = set-put (λ (x : Trace). x .closed) (m .calculator .traces) (n .0) r noTrace h i; fixed = set-put (λ (x : Trace). x .fixed) (m .calculator .traces) (n .0) r noTrace h i; cell = worldOf m g .cell; seen = set-put (λ (x : Trace). block (x .seen)) (m .calculator .traces) (n .0) r noTrace h i; held = worldOf m g .held; content = worldOf m g .content }
 
 abbrev putContent : ℕ → Content → World → World
-putContent k content' w = record { clock = w .clock; asked = w .asked; first = w .first; last = w .last; answer = w .answer; read = w .read; found = w .found; exch = w .exch; target = w .target; raised = w .raised; window = w .window; used = w .used; op = w .op; point = w .point; mine = w .mine; count = w .count; cur = w .cur; flag = w .flag; size = w .size; ann = w .ann; closed = w .closed; cell = w .cell; seen = w .seen; held = w .held; content = put (w .content) k content' }
+putContent k content' w = record { clock = w .clock; asked = w .asked; first = w .first; last = w .last; answer = w .answer; read = w .read; found = w .found; exch = w .exch; target = w .target; raised = w .raised; window = w .window; used = w .used; op = w .op; point = w .point; mine = w .mine; count = w .count; cur = w .cur; flag = w .flag; size = w .size; ann = w .ann; closed = w .closed; fixed = w .fixed; cell = w .cell; seen = w .seen; held = w .held; content = put (w .content) k content' }
 
 world-content : (m : Machine) (g : ℕ → ℕ → ℕ) (k : ℕ) (c : Content) → k < length (m .slots) → worldOf (withContent k c m) g ≡ putContent k c (worldOf m g)
-world-content m g k c h = λ i. record { clock = worldOf m g .clock; asked = worldOf m g .asked; first = worldOf m g .first; last = worldOf m g .last; answer = worldOf m g .answer; read = worldOf m g .read; found = worldOf m g .found; exch = worldOf m g .exch; target = worldOf m g .target; raised = worldOf m g .raised; window = worldOf m g .window; used = worldOf m g .used; op = worldOf m g .op; point = worldOf m g .point; mine = worldOf m g .mine; count = worldOf m g .count; cur = worldOf m g .cur; flag = worldOf m g .flag; size = worldOf m g .size; ann = worldOf m g .ann; closed = worldOf m g .closed; cell = worldOf m g .cell; seen = worldOf m g .seen; held = worldOf m g .held; content = set-put (λ (x : Slot). x .content) (m .slots) k (record { content = c }) noSlot h i }
+world-content m g k c h = λ i. record { clock = worldOf m g .clock; asked = worldOf m g .asked; first = worldOf m g .first; last = worldOf m g .last; answer = worldOf m g .answer; read = worldOf m g .read; found = worldOf m g .found; exch = worldOf m g .exch; target = worldOf m g .target; raised = worldOf m g .raised; window = worldOf m g .window; used = worldOf m g .used; op = worldOf m g .op; point = worldOf m g .point; mine = worldOf m g .mine; count = worldOf m g .count; cur = worldOf m g .cur; flag = worldOf m g .flag; size = worldOf m g .size; ann = worldOf m g .ann; closed = worldOf m g .closed; fixed = worldOf m g .fixed; cell = worldOf m g .cell; seen = worldOf m g .seen; held = worldOf m g .held; content = set-put (λ (x : Slot). x .content) (m .slots) k (record { content = c }) noSlot h i }
 
 abbrev putCount : ℕ → ℕ → World → World
-putCount q count' w = record { clock = w .clock; asked = w .asked; first = w .first; last = w .last; answer = w .answer; read = w .read; found = w .found; exch = w .exch; target = w .target; raised = w .raised; window = w .window; used = w .used; op = w .op; point = w .point; mine = w .mine; count = put (w .count) q count'; cur = w .cur; flag = w .flag; size = w .size; ann = w .ann; closed = w .closed; cell = w .cell; seen = w .seen; held = w .held; content = w .content }
+putCount q count' w = record { clock = w .clock; asked = w .asked; first = w .first; last = w .last; answer = w .answer; read = w .read; found = w .found; exch = w .exch; target = w .target; raised = w .raised; window = w .window; used = w .used; op = w .op; point = w .point; mine = w .mine; count = put (w .count) q count'; cur = w .cur; flag = w .flag; size = w .size; ann = w .ann; closed = w .closed; fixed = w .fixed; cell = w .cell; seen = w .seen; held = w .held; content = w .content }
 
 world-count : (m : Machine) (g : ℕ → ℕ → ℕ) (j : Cell) (v : ℕ) → j .thread .0 < length (m .calculator .counters) → worldOf (calculated (raised j v) m) g ≡ putCount (noOf j) v (worldOf m g)
-world-count m g j v h = λ i. record { clock = worldOf m g .clock; asked = worldOf m g .asked; first = worldOf m g .first; last = worldOf m g .last; answer = worldOf m g .answer; read = worldOf m g .read; found = worldOf m g .found; exch = worldOf m g .exch; target = worldOf m g .target; raised = worldOf m g .raised; window = worldOf m g .window; used = worldOf m g .used; op = worldOf m g .op; point = worldOf m g .point; mine = worldOf m g .mine; count = block-put (m .calculator .counters) j v h i; cur = worldOf m g .cur; flag = worldOf m g .flag; size = worldOf m g .size; ann = worldOf m g .ann; closed = worldOf m g .closed; cell = worldOf m g .cell; seen = worldOf m g .seen; held = worldOf m g .held; content = worldOf m g .content }
+world-count m g j v h = λ i. record { clock = worldOf m g .clock; asked = worldOf m g .asked; first = worldOf m g .first; last = worldOf m g .last; answer = worldOf m g .answer; read = worldOf m g .read; found = worldOf m g .found; exch = worldOf m g .exch; target = worldOf m g .target; raised = worldOf m g .raised; window = worldOf m g .window; used = worldOf m g .used; op = worldOf m g .op; point = worldOf m g .point; mine = worldOf m g .mine; count = block-put (m .calculator .counters) j v h i; cur = worldOf m g .cur; flag = worldOf m g .flag; size = worldOf m g .size; ann = worldOf m g .ann; closed = worldOf m g .closed; fixed = worldOf m g .fixed; cell = worldOf m g .cell; seen = worldOf m g .seen; held = worldOf m g .held; content = worldOf m g .content }
 
 abbrev withCurrent : ℕ → World → World
-withCurrent n w = record { clock = w .clock; asked = w .asked; first = w .first; last = w .last; answer = w .answer; read = w .read; found = w .found; exch = w .exch; target = w .target; raised = w .raised; window = w .window; used = w .used; op = w .op; point = w .point; mine = w .mine; count = w .count; cur = n; flag = w .flag; size = w .size; ann = w .ann; closed = w .closed; cell = w .cell; seen = w .seen; held = w .held; content = w .content }
+withCurrent n w = record { clock = w .clock; asked = w .asked; first = w .first; last = w .last; answer = w .answer; read = w .read; found = w .found; exch = w .exch; target = w .target; raised = w .raised; window = w .window; used = w .used; op = w .op; point = w .point; mine = w .mine; count = w .count; cur = n; flag = w .flag; size = w .size; ann = w .ann; closed = w .closed; fixed = w .fixed; cell = w .cell; seen = w .seen; held = w .held; content = w .content }
 
 abbrev withHeld : (ℕ → ℕ → ℕ) → World → World
-withHeld g w = record { clock = w .clock; asked = w .asked; first = w .first; last = w .last; answer = w .answer; read = w .read; found = w .found; exch = w .exch; target = w .target; raised = w .raised; window = w .window; used = w .used; op = w .op; point = w .point; mine = w .mine; count = w .count; cur = w .cur; flag = w .flag; size = w .size; ann = w .ann; closed = w .closed; cell = w .cell; seen = w .seen; held = g; content = w .content }
+withHeld g w = record { clock = w .clock; asked = w .asked; first = w .first; last = w .last; answer = w .answer; read = w .read; found = w .found; exch = w .exch; target = w .target; raised = w .raised; window = w .window; used = w .used; op = w .op; point = w .point; mine = w .mine; count = w .count; cur = w .cur; flag = w .flag; size = w .size; ann = w .ann; closed = w .closed; fixed = w .fixed; cell = w .cell; seen = w .seen; held = g; content = w .content }
 
 -- a step of a thread with no operation left
 abbrev pub pass : World → World
-pass w = record { clock = suc (w .clock); asked = w .asked; first = w .first; last = w .last; answer = w .answer; read = w .read; found = w .found; exch = w .exch; target = w .target; raised = w .raised; window = w .window; used = w .used; op = w .op; point = w .point; mine = w .mine; count = w .count; cur = w .cur; flag = w .flag; size = w .size; ann = w .ann; closed = w .closed; cell = w .cell; seen = w .seen; held = w .held; content = w .content }
+pass w = record { clock = suc (w .clock); asked = w .asked; first = w .first; last = w .last; answer = w .answer; read = w .read; found = w .found; exch = w .exch; target = w .target; raised = w .raised; window = w .window; used = w .used; op = w .op; point = w .point; mine = w .mine; count = w .count; cur = w .cur; flag = w .flag; size = w .size; ann = w .ann; closed = w .closed; fixed = w .fixed; cell = w .cell; seen = w .seen; held = w .held; content = w .content }
 
 -- ---- The parts of a step, where what is written again as it was changes nothing.
 
@@ -233,13 +234,13 @@ module _ (w : World) (o own : ℕ) where
   puts-exchanged : (v : Target) (c : Content) → putContent (key w o) c (putRecord o (exchangedAt v (w .clock) (recordIn w o own)) w) ≡ exchange o (v .0) c w
   puts-exchanged v c = simp put-none
 
-  puts-raised : (q v : ℕ) (n : SnapshotId) → n .0 ≡ cond (w .flag (w .cur)) (w .cur) 0 → putRecord o (raisedAt (w .clock) n (recordIn w o own)) (putCount q v w) ≡ raise o q v w
+  puts-raised : (q v : ℕ) (n : SnapshotId) → n .0 ≡ cond (eqb (w .closed (w .cur)) 0) (w .cur) 0 → putRecord o (raisedAt (w .clock) n (recordIn w o own)) (putCount q v w) ≡ raise o q v w
   puts-raised q v n e = simp (put-none, e)
 
   puts-used : (n : SnapshotId) → putRecord o (withUsed n (recordIn w o own)) w ≡ share (n .0) o w
   puts-used n = simp put-none
 
-  puts-fixed : (n : SnapshotId) (v t : ℕ) → putRecord o (withUsed n (recordIn w o own)) (putTrace (n .0) (w .ann (n .0)) (w .closed (n .0)) (w .mine t) (putSnapshot (n .0) (w .flag (n .0)) v (w .cell (n .0)) w)) ≡ fix (n .0) v t o w
+  puts-fixed : (n : SnapshotId) (v t : ℕ) → putRecord o (withUsed n (recordIn w o own)) (putTrace (n .0) (w .ann (n .0)) (w .closed (n .0)) (w .clock) (w .mine t) (putSnapshot (n .0) (w .flag (n .0)) v (w .cell (n .0)) w)) ≡ fix (n .0) v t o w
   puts-fixed n v t = simp put-none
 
   puts-last : (a t : ℕ) → putLocal t (suc o) Idle (w .mine t) (putRecord o (answered a (w .clock) (recordIn w o own)) w) ≡ return t o a w
@@ -249,7 +250,7 @@ puts-cell : (w : World) (n q v : ℕ) → putSnapshot n (w .flag n) (w .size n) 
 puts-cell w n q v = simp put-none
 
 puts-lowered : (w : World) (n t : ℕ)
-    → putLocal t (w .op t) (w .point t) (λ q. 0) (putTrace n (w .ann n) (cond (w .flag n) (w .clock) (w .closed n)) (w .seen n)
+    → putLocal t (w .op t) (w .point t) (λ q. 0) (putTrace n (w .ann n) (cond (w .flag n) (w .clock) (w .closed n)) (w .fixed n) (w .seen n)
     (putSnapshot n false (w .size n) (w .cell n) (withHeld (lower n t w .held) w))) ≡ lower n t w
 puts-lowered w n t = simp put-none
 
@@ -335,7 +336,7 @@ module _ (m : Machine) (g : ℕ → ℕ → ℕ) (s : Shape m) where
       world-record (calculated (raised (cellOf u) (updateTarget u)) m) g o r (omega (arith, s .records))
       ∙ ap (putRecord (o .0) r) (world-count m g (cellOf u) (updateTarget u) (omega (arith, s .calculator .counters)))
       ∙ puts-raised (worldOf m g) (o .0) (recordAt m o .outcome .own) (updateCell u) (updateTarget u) (windowOf c)
-      (cond-map (λ (n : SnapshotId). n .0) (snapshotAt c (c .current) .collecting) (c .current) (record { 0 = 0 }))
+      (cond-map (λ (n : SnapshotId). n .0) (eqb (traceAt c (c .current) .closed) 0) (c .current) (record { 0 = 0 }))
 
   world-announced : m .calculator .current .0 < 64 → worldOf (calculated (announced (m .clock)) m) g ≡ announce (worldOf m g)
   world-announced h =
@@ -344,8 +345,8 @@ module _ (m : Machine) (g : ℕ → ℕ → ℕ) (s : Shape m) where
       let e : n .0 ≡ suc (w .cur) = moreByte-is (w .cur) (omega arith) in
       ap (withCurrent (n .0))
       (world-trace (calculated (withSnapshot n (freshSnapshot true)) m) g n (freshTrace (m .clock)) (omega (arith, s .calculator .traces))
-      ∙ ap (putTrace (n .0) (m .clock) 0 (block (blockOf 0))) (world-snapshot m g n (freshSnapshot true) (omega (arith, s .calculator .snapshots))))
-      ∙ (λ i. withCurrent (e i) (putTrace (e i) (m .clock) 0 (block-zero i) (putSnapshot (e i) true invalid (block-fresh i) w)))
+      ∙ ap (putTrace (n .0) (m .clock) 0 0 (block (blockOf 0))) (world-snapshot m g n (freshSnapshot true) (omega (arith, s .calculator .snapshots))))
+      ∙ (λ i. withCurrent (e i) (putTrace (e i) (m .clock) 0 0 (block-zero i) (putSnapshot (e i) true invalid (block-fresh i) w)))
 
   world-lowered : (n : SnapshotId) (t : ThreadId) (o : OpId) → n .0 < 65 → t .0 < 8
       → worldOf (sizes (Lowers n) t o m) (lower (n .0) (t .0) (worldOf m g) .held) ≡ lower (n .0) (t .0) (worldOf m g)
@@ -355,13 +356,13 @@ module _ (m : Machine) (g : ℕ → ℕ → ℕ) (s : Shape m) where
       let x = snapshotAt (m .calculator) n in
       let y = traceAt (m .calculator) n in
       let x' : Snapshot = record { cells = x .cells; collecting = false; size = x .size } in
-      let y' : Trace = record { announced = y .announced; closed = cond (x .collecting) (m .clock) (y .closed); seen = y .seen } in
+      let y' : Trace = record { announced = y .announced; closed = cond (x .collecting) (m .clock) (y .closed); fixed = y .fixed; seen = y .seen } in
       let l = withSeen (blockOf 0) (localAt m t) in
       world-local (calculated (lowered n (m .clock)) m) g' t l (omega (arith, s .locals))
       ∙ ap (putLocal (t .0) (l .op .0) (l .point) (block (blockOf 0)))
       (world-trace (calculated (withSnapshot n x') m) g' n y' (omega (arith, s .calculator .traces))
-      ∙ ap (putTrace (n .0) (y' .announced) (y' .closed) (block (y' .seen))) (world-snapshot m g' n x' (omega (arith, s .calculator .snapshots))))
-      ∙ ap (λ (b : ℕ → ℕ). putLocal (t .0) (l .op .0) (l .point) b (putTrace (n .0) (y' .announced) (y' .closed) (block (y' .seen)) (putSnapshot (n .0) false (x .size) (block (x .cells)) (withHeld g' w)))) block-zero
+      ∙ ap (putTrace (n .0) (y' .announced) (y' .closed) (y' .fixed) (block (y' .seen))) (world-snapshot m g' n x' (omega (arith, s .calculator .snapshots))))
+      ∙ ap (λ (b : ℕ → ℕ). putLocal (t .0) (l .op .0) (l .point) b (putTrace (n .0) (y' .announced) (y' .closed) (y' .fixed) (block (y' .seen)) (putSnapshot (n .0) false (x .size) (block (x .cells)) (withHeld g' w)))) block-zero
       ∙ puts-lowered w (n .0) (t .0)
 
   world-kept : (j : Cell) (v : ℕ) (t : ThreadId) (o : OpId) → j .thread .0 < 8 → t .0 < 8 → worldOf (sizes (Keeps j v) t o m) g ≡ keep (t .0) (noOf j) v (worldOf m g)
@@ -381,12 +382,12 @@ module _ (m : Machine) (g : ℕ → ℕ → ℕ) (s : Shape m) where
       let x = snapshotAt (m .calculator) n in
       let y = traceAt (m .calculator) n in
       let x' : Snapshot = record { cells = x .cells; collecting = x .collecting; size = v } in
-      let y' : Trace = record { announced = y .announced; closed = y .closed; seen = localAt m t .seen } in
+      let y' : Trace = record { announced = y .announced; closed = y .closed; fixed = m .clock; seen = localAt m t .seen } in
       let r = withUsed n (recordAt m o) in
-      world-record (calculated (fixed n v (localAt m t .seen)) m) g o r (omega (arith, s .records))
+      world-record (calculated (fixed n v (m .clock) (localAt m t .seen)) m) g o r (omega (arith, s .records))
       ∙ ap (putRecord (o .0) r)
       (world-trace (calculated (withSnapshot n x') m) g n y' (omega (arith, s .calculator .traces))
-      ∙ ap (putTrace (n .0) (y' .announced) (y' .closed) (block (y' .seen))) (world-snapshot m g n x' (omega (arith, s .calculator .snapshots))))
+      ∙ ap (putTrace (n .0) (y' .announced) (y' .closed) (y' .fixed) (block (y' .seen))) (world-snapshot m g n x' (omega (arith, s .calculator .snapshots))))
       ∙ puts-fixed (worldOf m g) (o .0) (recordAt m o .outcome .own) n v (t .0)
 
   pub world-does : (d : Deed) (t : ThreadId) (o : OpId) → InRange m t o d

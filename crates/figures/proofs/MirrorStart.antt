@@ -46,11 +46,11 @@ unfolding sumTo sumBy
 sum-cells k b zero = refl
 sum-cells k b (suc n) = omega (arith, sum-cells k b n, block-at b (record { thread = record { 0 = n }; kind = k }))
 
+pub sum-of : (k : Kind) (b : List Counts) → length b ≡ 8 → sumOf k b ≡ sumBy k (block b) 8
+sum-of k b h = sum-list k b ∙ sum-cells k b (length b) ∙ ap (sumBy k (block b)) h
+
 pub total-of : (b : List Counts) → length b ≡ 8 → totalOf b ≡ total (block b)
-total-of b h = rw (each Insertion, each Deletion)
-  where
-    each : (k : Kind) → sumOf k b ≡ sumBy k (block b) 8
-    each k = sum-list k b ∙ sum-cells k b (length b) ∙ ap (sumBy k (block b)) h
+total-of b h = rw (sum-of Insertion b h, sum-of Deletion b h)
 
 pub total-mine : (m : Machine) (g : ℕ → ℕ → ℕ) (t : ThreadId) → Shape m → t .0 < 8 → totalOf (localAt m t .seen) ≡ total (worldOf m g .mine (t .0))
 total-mine m g t s h = total-of (localAt m t .seen) (s .seen (t .0) h)
@@ -128,6 +128,8 @@ module _ (T n : ℕ) (w : World) (e : Quiet w) where
               fair = λ s k. unknown k;
               kept = λ s k. unknown k;
               fixed = λ s k. unknown k;
+              valid = λ s k. unknown k;
+              dated = λ s k. unknown k;
             };
         windows = record { told = λ u h. never (e .raised u) h; only = λ u s h. never (e .raised u) h };
         keys =

@@ -63,7 +63,7 @@ next-in T j i h l = go (j .kind) h l
     go Insertion h l = omega arith
     go Deletion h l = omega (arith, byte-more (j .thread .0) i)
 
-next-out : (T : ℕ) (j : Cell) → j .thread .0 < 255 → noOf j < T + T → T ≤ nextCell j .thread .0 → suc (noOf j) ≡ T + T
+pub next-out : (T : ℕ) (j : Cell) → j .thread .0 < 255 → noOf j < T + T → T ≤ nextCell j .thread .0 → suc (noOf j) ≡ T + T
 next-out T j i h l = go (j .kind) h l
   where
     go : (k : Kind) → noOf (record { thread = j .thread; kind = k }) < T + T → T ≤ nextCell (record { thread = j .thread; kind = k }) .thread .0 → suc (noOf (record { thread = j .thread; kind = k })) ≡ T + T
@@ -255,12 +255,15 @@ module _ {T n x : ℕ} {w : World} {t o : ℕ} (core : Core T n x w) (acting : A
           }
   size-branch (FixSize s) seen g e sees h =
       eq-case Goes' (g .size) invalid (record { next = Sized (totalOf seen); deed = Fixes s (totalOf seen) }) (record { next = Sized (g .size); deed = Shares s })
-      (λ i. record { guar = (does, record { summing = h; unfixed = sym (sees .size) ∙ i; sum = e }); onward = sized fixes })
+      (λ i. record { guar = (does, record { summing = h; unfixed = sym (sees .size) ∙ i; sum = e; valid = valid }); onward = sized fixes })
       (λ i. record { guar = does; onward = sized (shares i) })
     where
       low : (q : ℕ) → Dec (q < T + T) → w .mine t q ≤ 64
       low q (yes l) = omega (arith, h .reads q l .fair .low, count-small core acting small past q)
       low q (no l) = omega (arith, h .rest q (omega arith))
+
+      valid : totalOf seen ≢ invalid
+      valid = rw e (total-small (w .mine t) (λ q. low q (decLt q (T + T))))
 
       fixes : ReturnsSize (fix (s .0) (totalOf seen) t o w) o (totalOf seen)
       fixes =
@@ -268,7 +271,7 @@ module _ {T n x : ℕ} {w : World} {t o : ℕ} (core : Core T n x w) (acting : A
             does = does;
             using' = rw put-same (record { known = record { some = h .using' .known .some; there = h .using' .known .there }; began = h .using' .began });
             closed = rw put-same (h .closed);
-            fixed = rw (put-same (w .used) o (s .0), put-same (w .size) (s .0) (totalOf seen), e) (total-small (w .mine t) (λ q. low q (decLt q (T + T))));
+            fixed = rw (put-same (w .used) o (s .0), put-same (w .size) (s .0) (totalOf seen)) valid;
             answer = rw (put-same (w .used) o (s .0), put-same (w .size) (s .0) (totalOf seen));
           }
 

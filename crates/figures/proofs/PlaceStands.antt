@@ -8,9 +8,11 @@ use native.Mathlib.Omega.{arith}
 use native.Mathlib.Decide.{ℕ-discrete, decLt}
 use lib.Dec.{eqb, ltb}
 use borrow.Author.Tests.{ltb-true, ltb-false, lt-ltb, le-ltb, ne-eqb}
-use Rattle.history.specs.Span.{Within}
+use Rattle.history.specs.Places.{place}
+use Rattle.history.specs.Demand.{InSpan}
 use Rattle.history.proofs.Split.{split, or-true}
 use Rattle.history.proofs.Order.{Placed}
+use Rattle.history.proofs.Places.{At, at-step, at-rank, at-some, same-step, same-rank, same-tie, same-read}
 use Rattle.figures.specs.declared.Kind.{Kind}
 use Rattle.figures.specs.declared.Node.{Node}
 use Rattle.figures.specs.declared.Content.{Content}
@@ -19,11 +21,10 @@ use Rattle.figures.specs.declared.Call.{Call}
 use Rattle.figures.specs.declared.Call.the-variants.{Insert, Delete, Contains, Size}
 use Rattle.figures.specs.declared.Machine.{Machine}
 use Rattle.figures.specs.Step.{recordAt}
-use Rattle.figures.specs.Places.{op, place, listed, updateStands, afterStands, finderStands, setStands, stands, placeOf, orderOf}
+use Rattle.figures.specs.Places.{op, updateStands, afterStands, finderStands, setStands, stands, placeOf, courseOf, listed, orderOf}
 use Rattle.figures.proofs.World.{World, thr, key, call, kindOf, callFor}
 use Rattle.figures.proofs.Inv.{Settled, Found, Finding, FoundSettled, Finder, Sized, Event, exchanges, raises, reads, closes, stamp}
 use Rattle.figures.proofs.Mirror.{worldOf}
-use Rattle.figures.proofs.PlaceNumbers.{At, at-step, at-some, same-step, same-rank, same-tie, same-read}
 use Rattle.figures.proofs.PlaceUpdates.{Ended, standing, stands-update, exchange-of, raised-standing, exchanged-standing, settled-standing, pair}
 
 -- a returned operation that changed nothing
@@ -35,13 +36,13 @@ pub record Unchanged (w : World) (o : ℕ) : Type 0 where
 -- it stands at its read: every update of its key that was exchanged before stands before
 pub record Reads (m : Machine) (w : World) (o : ℕ) : Type 0 where
   pub unchanged : Unchanged w o
-  pub at : At m o (w .read o) 1 (w .read o) 0
+  pub at : At (courseOf m o) (w .read o) 1 (w .read o) 0
   pub earlier : (u : ℕ) → 0 < w .exch u → key w u ≡ key w o → w .exch u < w .read o → (0 < w .raised u) × (standing m u < w .read o)
 
 -- it stands directly after the update u that it found
 pub record Follows (m : Machine) (w : World) (o u : ℕ) : Type 0 where
   pub unchanged : Unchanged w o
-  pub at : At m o (standing m u) 1 (w .raised u) (w .read o)
+  pub at : At (courseOf m o) (standing m u) 1 (w .raised u) (w .read o)
   pub raised : 0 < w .raised u
   pub onKey : key w u ≡ key w o
   pub before : w .exch u < w .read o
@@ -50,8 +51,8 @@ pub record Follows (m : Machine) (w : World) (o u : ℕ) : Type 0 where
   pub inTime : standing m u ≤ w .last o
 
 pub data Stand (m : Machine) (w : World) (o : ℕ) : Type 0 where
-  sizes : call w o ≡ Size → 0 < w .last o → Sized w o → At m o (w .closed (w .used o)) 0 (thr w o) 0 → Stand m w o
-  changes : 0 < w .raised o → At m o (standing m o) 1 (w .raised o) 0 → Stand m w o
+  sizes : call w o ≡ Size → 0 < w .last o → Sized w o → At (courseOf m o) (w .closed (w .used o)) 0 (thr w o) 0 → Stand m w o
+  changes : 0 < w .raised o → At (courseOf m o) (standing m o) 1 (w .raised o) 0 → Stand m w o
   looks : Reads m w o → Stand m w o
   follows : (u : ℕ) → Follows m w o u → Stand m w o
 
@@ -68,24 +69,24 @@ record Mark (m : Machine) (w : World) (o : ℕ) : Type 0 where
   s : ℕ
   t : ℕ
   d : ℕ
-  at : At m o s 1 t d
+  at : At (courseOf m o) s 1 t d
   own : eventOp event ≡ o
   some : 0 < stamp w event
   tells : stamp w event ≡ cond (eqb d 0) t d
 
 data Marks (m : Machine) (w : World) (o : ℕ) : Type 0 where
-  sized : Sized w o → At m o (w .closed (w .used o)) 0 (thr w o) 0 → Marks m w o
+  sized : Sized w o → At (courseOf m o) (w .closed (w .used o)) 0 (thr w o) 0 → Marks m w o
   marked : Mark m w o → Marks m w o
 
 module _ {T n : ℕ} {m : Machine} {g : ℕ → ℕ → ℕ} {counts : List ℕ} (i : Ended T n m g counts) where
   abbrev w : World
   w = worldOf m g
 
-  place-of : (o : ℕ) (c : Call) → call w o ≡ c → placeOf m o ≡ stands m c (recordAt m (op o))
+  pub place-of : (o : ℕ) (c : Call) → call w o ≡ c → placeOf m o ≡ stands m c (recordAt m (op o))
   unfolding placeOf
   place-of o c e = ap (λ (x : Call). stands m x (recordAt m (op o))) e
 
-  set-place : (o : ℕ) → call w o ≢ Size → placeOf m o ≡ setStands m (recordAt m (op o))
+  pub set-place : (o : ℕ) → call w o ≢ Size → placeOf m o ≡ setStands m (recordAt m (op o))
   set-place o d = go (call w o) refl
     where
       go : (c : Call) → call w o ≡ c → placeOf m o ≡ setStands m (recordAt m (op o))
@@ -94,13 +95,13 @@ module _ {T n : ℕ} {m : Machine} {g : ℕ → ℕ → ℕ} {counts : List ℕ}
       go Contains e = place-of o Contains e
       go Size e = absurd (d e)
 
-  exchanged-call : (o : ℕ) → 0 < w .exch o → call w o ≢ Size
+  pub exchanged-call : (o : ℕ) → 0 < w .exch o → call w o ≢ Size
   exchanged-call o h e =
       let z : callFor (kindOf (call w o)) ≡ Insert = rw e in
       let y : _≡_ {A = ℕ} 0 1 = cc (i .core .records .exchanges o h .does) in
       omega arith
 
-  pub update-at : (u : ℕ) → 0 < w .raised u → At m u (standing m u) 1 (w .raised u) 0
+  pub update-at : (u : ℕ) → 0 < w .raised u → At (courseOf m u) (standing m u) 1 (w .raised u) 0
   update-at u r =
       let x = i .core .records .raises u r in
       let y = raised-standing i u r in
@@ -126,7 +127,7 @@ module _ {T n : ℕ} {m : Machine} {g : ℕ → ℕ → ℕ} {counts : List ℕ}
         ∙ ap (λ b. cond b (updateStands m (recordAt m (op o))) (finderStands m (w .found o) (w .read o))) (le-ltb 0 (w .raised o) (omega (arith, un .unraised)))
         ∙ ap (λ (x : Content). finderStands m x (w .read o)) e
 
-    read-at : placeOf m o ≡ place (w .read o) 1 (w .read o) 0 → At m o (w .read o) 1 (w .read o) 0
+    read-at : placeOf m o ≡ place (w .read o) 1 (w .read o) 0 → At (courseOf m o) (w .read o) 1 (w .read o) 0
     read-at e = record { here = e; some = un .finder .looked; rank = omega arith; tie = read-small; read = omega arith }
 
     stand-after : (f : Node) (k : Kind) → Found w o f k → Settled w (f .op .0) (suc (w .last o)) → placeOf m o ≡ afterStands (updateStands m (recordAt m (f .op))) (w .read o) → Stand m w o
@@ -171,7 +172,7 @@ module _ {T n : ℕ} {m : Machine} {g : ℕ → ℕ → ℕ} {counts : List ℕ}
       let t = i .owners .whose o (omega (arith, i .all)) .thread in
       sizes e l s (record { here = place-of o Size e; some = s .closed; rank = omega arith; tie = omega arith; read = omega arith })
 
-  unraised-last : (o : ℕ) → listed m o ≡ true → w .raised o ≡ 0 → 0 < w .last o
+  pub unraised-last : (o : ℕ) → listed m o ≡ true → w .raised o ≡ 0 → 0 < w .last o
   unraised-last o t e = go (decLt 0 (w .last o))
     where
       go : Dec (0 < w .last o) → 0 < w .last o
@@ -179,7 +180,7 @@ module _ {T n : ℕ} {m : Machine} {g : ℕ → ℕ → ℕ} {counts : List ℕ}
       go (no h) = let z = ltb-true 0 (w .raised o) (or-true (ltb 0 (w .last o)) _ (le-ltb 0 (w .last o) (omega arith)) t) in absurd (omega arith)
 
   -- a returned operation that was not raised was not exchanged
-  unexchanged : (o : ℕ) → 0 < w .last o → w .raised o ≡ 0 → w .exch o ≡ 0
+  pub unexchanged : (o : ℕ) → 0 < w .last o → w .raised o ≡ 0 → w .exch o ≡ 0
   unexchanged o l e = go (decLt 0 (w .exch o))
     where
       go : Dec (0 < w .exch o) → w .exch o ≡ 0
@@ -205,10 +206,10 @@ module _ {T n : ℕ} {m : Machine} {g : ℕ → ℕ → ℕ} {counts : List ℕ}
 
   -- ---- Each stands within its span.
 
-  within : (o : ℕ) {s : ℕ} → placeOf m o .step ≡ s → w .first o ≤ s → (0 < w .last o → s ≤ w .last o) → Within (w .first o) (w .last o) (ltb 0 (w .last o)) (placeOf m o .step)
+  within : (o : ℕ) {s : ℕ} → placeOf m o .step ≡ s → w .first o ≤ s → (0 < w .last o → s ≤ w .last o) → InSpan (courseOf m o)
   within o e a b = record { begun = omega arith; ended = λ t. omega (arith, b (ltb-true 0 (w .last o) t)) }
 
-  pub spans-of : (o : ℕ) → Stand m w o → Within (w .first o) (w .last o) (ltb 0 (w .last o)) (placeOf m o .step)
+  pub spans-of : (o : ℕ) → Stand m w o → InSpan (courseOf m o)
   spans-of o (sizes e l s a) = within o (at-step a) (s .after) (λ h. s .before)
   spans-of o (changes r a) =
       let x = i .core .records .raises o r in
@@ -255,6 +256,13 @@ module _ {T n : ℕ} {m : Machine} {g : ℕ → ℕ → ℕ} {counts : List ℕ}
   some-place : (o : ℕ) → Marks m w o → 1 ≤ orderOf m o
   some-place o (sized s a) = at-some a
   some-place o (marked x) = at-some (x .at)
+
+  rank-small : (o : ℕ) → Marks m w o → placeOf m o .rank ≤ 1
+  rank-small o (sized s a) = at-rank a
+  rank-small o (marked x) = at-rank (x .at)
+
+  pub ranked : (o : ℕ) → o < n → listed m o ≡ true → placeOf m o .rank ≤ 1
+  ranked o h t = rank-small o (marks-of o (stand-of o h t))
 
   pub placed : Placed n (listed m) (orderOf m)
   placed =

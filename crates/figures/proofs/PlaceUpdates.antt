@@ -2,22 +2,21 @@
 -- stands before it.
 use Prim.Native.Nat.{ℕ, _+_, _≤_, _<_}
 use mathlib.Core.Path.{_≡_, refl, sym, ap, _∙_}
-use mathlib.Core.Logic.{_≢_}
 use mathlib.Core.Bool.{true, not, _&&_}
 use mathlib.Core.List.{List}
 use native.Mathlib.Omega.{arith}
 use lib.Dec.{eqb, ltb}
 use borrow.Author.Tests.{ltb-true, lt-ltb, eqb-false, ne-eqb, not-true}
+use Rattle.history.specs.Places.{place}
 use Rattle.figures.specs.declared.Kind.{Kind}
 use Rattle.figures.specs.declared.Kind.the-variants.{Insertion, Deletion}
 use Rattle.figures.specs.declared.Call.{Call}
 use Rattle.figures.specs.declared.Call.the-variants.{Insert, Delete, Contains, Size}
 use Rattle.figures.specs.declared.Machine.{Machine}
-use Rattle.figures.specs.Limits.{invalid}
 use Rattle.figures.specs.Figure4.{countAt, traceAt}
 use Rattle.figures.specs.Step.{recordAt}
 use Rattle.figures.specs.Counts.{opsBefore}
-use Rattle.figures.specs.Places.{op, place, ownCell, missed, updateStands}
+use Rattle.figures.specs.Places.{op, ownCell, missed, updateStands}
 use Rattle.figures.specs.Places as Places
 use Rattle.figures.proofs.Laws.{cond-case, and-true, tests-differ}
 use Rattle.figures.proofs.World.{World, thr, key, call, cellOp, cellNo, kindOf}
@@ -38,7 +37,7 @@ pub record Ended (T n : ℕ) (m : Machine) (g : ℕ → ℕ → ℕ) (counts : L
 
 pub record Missed (w : World) (u : ℕ) : Type 0 where
   pub some : 0 < w .window u
-  pub fixed : w .size (w .window u) ≢ invalid
+  pub fixed : 0 < w .fixed (w .window u)
   pub low : w .seen (w .window u) (cellOp w u) < w .target u
 
 kind-same : (c : Call) → Places.kindOf c ≡ kindOf c
@@ -49,15 +48,16 @@ kind-same Size = refl
 
 -- its three tests
 module _ (s z v t : ℕ) where
-  tests-are : (not (eqb s 0) && not (eqb z invalid) && ltb v t) ≡ true → (0 < s) × (z ≢ invalid) × (v < t)
+  tests-are : (not (eqb s 0) && not (eqb z 0) && ltb v t) ≡ true → (0 < s) × (0 < z) × (v < t)
   tests-are e =
-      let b = and-true (not (eqb s 0) && not (eqb z invalid)) (ltb v t) e in
-      let a = and-true (not (eqb s 0)) (not (eqb z invalid)) (b .0) in
+      let b = and-true (not (eqb s 0) && not (eqb z 0)) (ltb v t) e in
+      let a = and-true (not (eqb s 0)) (not (eqb z 0)) (b .0) in
       let n = eqb-false s 0 (not-true (eqb s 0) (a .0)) in
-      (omega (arith, n), eqb-false z invalid (not-true (eqb z invalid) (a .1)), ltb-true v t (b .1))
+      let k = eqb-false z 0 (not-true (eqb z 0) (a .1)) in
+      (omega (arith, n), omega (arith, k), ltb-true v t (b .1))
 
-  are-tests : 0 < s → z ≢ invalid → v < t → (not (eqb s 0) && not (eqb z invalid) && ltb v t) ≡ true
-  are-tests a b c = rw (ne-eqb s 0 (λ e. omega arith), ne-eqb z invalid b, lt-ltb v t c)
+  are-tests : 0 < s → 0 < z → v < t → (not (eqb s 0) && not (eqb z 0) && ltb v t) ≡ true
+  are-tests a b c = rw (ne-eqb s 0 (λ e. omega arith), ne-eqb z 0 (λ e. omega arith), lt-ltb v t c)
 
 -- the step at which an update stands
 unfoldable pub standing : Machine → ℕ → ℕ
@@ -71,11 +71,11 @@ module _ (m : Machine) (g : ℕ → ℕ → ℕ) (u : ℕ) where
 
   missed-is : missed m (recordAt m (op u)) ≡ true → Missed (worldOf m g) u
   missed-is e =
-      let t = tests-are (worldOf m g .window u) (worldOf m g .size (worldOf m g .window u)) _ (worldOf m g .target u) e in
+      let t = tests-are (worldOf m g .window u) (worldOf m g .fixed (worldOf m g .window u)) _ (worldOf m g .target u) e in
       record { some = t .0; fixed = t .1; low = rw seen-own (t .2) }
 
   is-missed : Missed (worldOf m g) u → missed m (recordAt m (op u)) ≡ true
-  is-missed h = are-tests (worldOf m g .window u) (worldOf m g .size (worldOf m g .window u)) _ (worldOf m g .target u) (h .some) (h .fixed) (rw seen-own at (h .low))
+  is-missed h = are-tests (worldOf m g .window u) (worldOf m g .fixed (worldOf m g .window u)) _ (worldOf m g .target u) (h .some) (h .fixed) (rw seen-own at (h .low))
 
   pub standing-case : (P : ℕ → Type 0) → (Missed (worldOf m g) u → P (worldOf m g .closed (worldOf m g .window u)))
       → ((Missed (worldOf m g) u → ⊥) → P (worldOf m g .raised u)) → P (standing m u)
@@ -107,7 +107,9 @@ module _ {T n : ℕ} {m : Machine} {g : ℕ → ℕ → ℕ} {counts : List ℕ}
   missed-window u r h = i .core .windows .told u r (h .some)
 
   missed-fixed : (u : ℕ) → 0 < w .raised u → Missed w u → Fixed T w (w .window u)
-  missed-fixed u r h = i .core .snaps .fixed (w .window u) (missed-window u r h .known) (h .fixed)
+  missed-fixed u r h =
+      let k = missed-window u r h .known in
+      i .core .snaps .fixed (w .window u) k (i .core .snaps .valid (w .window u) k (h .fixed))
 
   pub raised-standing : (u : ℕ) → 0 < w .raised u → w .raised u ≤ standing m u
   raised-standing u r =

@@ -95,8 +95,8 @@ shape-lowered : (n : SnapshotId) (step : ℕ) (c : Calculator) → CalculatorSha
 shape-lowered n step c h =
     shape-trace _ (shape-snapshot c h n _ (λ l. h .cells (n .0) l)) n _ (λ l. h .seen (n .0) l)
 
-shape-fixed : (n : SnapshotId) (v : ℕ) (b : List Counts) (c : Calculator) → length b ≡ 8 → CalculatorShape c → CalculatorShape (fixed n v b c)
-shape-fixed n v b c e h = shape-trace _ (shape-snapshot c h n _ (λ l. h .cells (n .0) l)) n _ (λ l. e)
+shape-fixed : (n : SnapshotId) (v step : ℕ) (b : List Counts) (c : Calculator) → length b ≡ 8 → CalculatorShape c → CalculatorShape (fixed n v step b c)
+shape-fixed n v step b c e h = shape-trace _ (shape-snapshot c h n _ (λ l. h .cells (n .0) l)) n _ (λ l. e)
 
 -- ---- The machine's writes.
 
@@ -139,7 +139,7 @@ module _ (t : ThreadId) (o : OpId) (l : t .0 < 8) where
       shape-local _ (shape-calculator m h _ (shape-lowered n (m .clock) (m .calculator) (h .calculator))) t _ (λ l. refl)
   shape-sizes (Keeps j v) m h = shape-local m h t _ (λ l. count-length (localAt m t .seen) j v ∙ h .seen (t .0) l)
   shape-sizes (Fixes n v) m h =
-      shape-record _ (shape-calculator m h _ (shape-fixed n v (localAt m t .seen) (m .calculator) (h .seen (t .0) l) (h .calculator))) o _
+      shape-record _ (shape-calculator m h _ (shape-fixed n v (m .clock) (localAt m t .seen) (m .calculator) (h .seen (t .0) l) (h .calculator))) o _
   shape-sizes (Shares n) m h = shape-record m h o _
 
   pub shape-does : (d : Deed) (m : Machine) → Shape m → Shape (does d t o m)

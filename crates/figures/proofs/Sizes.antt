@@ -8,6 +8,7 @@ use native.Mathlib.Omega.{arith}
 use native.Mathlib.Decide.{ℕ-discrete, decLt}
 use lib.Dec.{eqb, leb}
 use borrow.Author.Tests.{le-leb, lt-leb, leb-true}
+use Rattle.history.proofs.Turns.{owned-apart}
 use Rattle.terms.specs.declared.ThreadId.{ThreadId}
 use Rattle.terms.specs.declared.OpId.{OpId}
 use Rattle.figures.specs.declared.Counts.{Counts}
@@ -45,9 +46,9 @@ use Rattle.figures.specs.Start.{startOf, unbegun}
 use Rattle.figures.specs.Counts.{opsBefore, isAnnouncing, isAnnouncement, announcesAt, announcedSteps, SizeSteps}
 use Rattle.figures.proofs.Laws.{cond-both, test-case, tests-differ, moreByte-is}
 use Rattle.figures.proofs.Runs.{step-case, acting}
-use Rattle.figures.proofs.Frame.{recordOf, firstOf, lastOf, ownOf, pointOf, opOf, endOf, Went, went, Moved}
-use Rattle.figures.proofs.Begin.{Owned, owned-apart, before-grows, start-records, start-point}
-use Rattle.figures.proofs.Threads.{threadOf, moved}
+use Rattle.figures.proofs.Frame.{recordOf, firstOf, lastOf, ownOf, pointOf, opOf, endOf, Went, went, threadOf, Moved}
+use Rattle.figures.proofs.Begin.{Owned, before-grows, start-records, start-point}
+use Rattle.figures.proofs.Threads.{moved}
 use Rattle.figures.proofs.Sound.{Sound}
 use Rattle.figures.proofs.OwnSteps.{before-snoc}
 use Rattle.figures.proofs.Ranks.{Ranked, Sized-in, ranked-most, Fits, NextFits, fits-access, fits-stands}
@@ -95,7 +96,7 @@ module _ (counts : List ℕ) (n : ℕ) (some : 1 ≤ n) (most : n ≤ 8) (s : Li
         let z = w .end u in
         let b : opOf m u < endOf m u = omega arith in
         let v : Owned counts u (opOf m u) = record { thread = ul; from = d .owners .from u ul; below = omega (arith, d .owners .ends u ul) } in
-        let x = w .other (opOf m u) (owned-apart own-owned v n) in
+        let x = w .other (opOf m u) (owned-apart (before-grows counts) own-owned v n) in
         fits-along (w .threads) (ap (callAt m') q ∙ ap (λ (a : Asked). a .call) (w .asked (opOf m u))) (w .point u n) (ap (ownOf m') q ∙ ap (λ (y : Outcome). y .own) x)
         (r .fits u ul b)
 

@@ -37,9 +37,11 @@ record Timed (T x : ℕ) (w : World) (s : ℕ) : Type 0 where
   kept : 0 < w .closed s → (q : ℕ) → q < T + T → w .held s q ≤ w .cell s q
 
 -- what is in it
-record Valued (T : ℕ) (w : World) (s : ℕ) : Type 0 where
+record Valued (T x : ℕ) (w : World) (s : ℕ) : Type 0 where
   fair : (q : ℕ) → q < T + T → w .cell s q ≢ invalid → Fair w s q (w .cell s q)
   fixed : w .size s ≢ invalid → Fixed T w s
+  valid : 0 < w .fixed s → w .size s ≢ invalid
+  dated : w .fixed s ≤ x
 
 -- none was announced or closed
 record Steady (w w' : World) : Type 0 where
@@ -49,10 +51,10 @@ record Steady (w w' : World) : Type 0 where
 
 -- what of the snapshots changes
 abbrev Table : Type 0
-Table = ℕ × (ℕ → Bool) × (ℕ → ℕ) × (ℕ → ℕ → ℕ) × (ℕ → ℕ)
+Table = ℕ × (ℕ → Bool) × (ℕ → ℕ) × (ℕ → ℕ → ℕ) × (ℕ → ℕ) × (ℕ → ℕ)
 
 abbrev table : World → Table
-table w = (w .cur, w .flag, w .closed, w .cell, w .size)
+table w = (w .cur, w .flag, w .closed, w .cell, w .size, w .fixed)
 
 module _ {T n x t a : ℕ} {w w' : World} (core : Core T n x w) (g : Grows x t a w w') where
   -- ---- Values: a cell or a sum that stands, and a new one.
@@ -60,17 +62,18 @@ module _ {T n x t a : ℕ} {w w' : World} (core : Core T n x w) (g : Grows x t a
   fair-stands : {s : ℕ} → Known w s → (q : ℕ) → w' .cell s q ≡ w .cell s q → q < T + T → w' .cell s q ≢ invalid → Fair w' s q (w' .cell s q)
   fair-stands {s} k q e h v = rw e (fair-grows core g k (core .snaps .fair s k q h (λ i. v (e ∙ i))))
 
-  fixed-by : {s : ℕ} → Known w s → 0 < w .closed s → w' .size s ≡ total (w' .seen s) → ((q : ℕ) → q < T + T → ReadFor w s q (w' .seen s q)) → ((q : ℕ) → T + T ≤ q → w' .seen s q ≡ 0) → Fixed T w' s
-  fixed-by {s} k c sum reads rest =
+  fixed-by : {s : ℕ} → Known w s → 0 < w .closed s → w .closed s < w' .fixed s → w' .size s ≡ total (w' .seen s) → ((q : ℕ) → q < T + T → ReadFor w s q (w' .seen s q)) → ((q : ℕ) → T + T ≤ q → w' .seen s q ≡ 0) → Fixed T w' s
+  fixed-by {s} k c after sum reads rest =
       record {
         closed = omega (arith, g .ages s k .closed c);
+        after = omega (arith, g .ages s k .closed c);
         sum = sum;
         reads = λ q h. readFor-grows core g k c (reads q h);
         rest = rest;
       }
 
   fixed-stands : {s : ℕ} → Known w s → w' .size s ≡ w .size s → w' .size s ≢ invalid → Fixed T w' s
-  fixed-stands {s} k e v = fixed-by k (f .closed) (rw seen (e ∙ f .sum)) (rw seen (f .reads)) (rw seen (f .rest))
+  fixed-stands {s} k e v = fixed-by k (f .closed) (omega (arith, f .after, g .ages s k .size z .2)) (rw seen (e ∙ f .sum)) (rw seen (f .reads)) (rw seen (f .rest))
     where
       z : w .size s ≢ invalid
       z = λ i. v (e ∙ i)
@@ -81,8 +84,15 @@ module _ {T n x t a : ℕ} {w w' : World} (core : Core T n x w) (g : Grows x t a
       seen : w' .seen s ≡ w .seen s
       seen = g .ages s k .size z .1
 
-  valued-stands : {s : ℕ} → ((q : ℕ) → w' .cell s q ≡ w .cell s q) → w' .size s ≡ w .size s → Known w s → Valued T w' s
-  valued-stands cells size k = record { fair = λ q. fair-stands k q (cells q); fixed = fixed-stands k size }
+  valued-stands : {s x' : ℕ} → x ≤ x' → ((q : ℕ) → w' .cell s q ≡ w .cell s q) → w' .size s ≡ w .size s → w' .fixed s ≡ w .fixed s
+      → Known w s → Valued T x' w' s
+  valued-stands {s} later cells size dated k =
+      record {
+        fair = λ q. fair-stands k q (cells q);
+        fixed = fixed-stands k size;
+        valid = λ h e. core .snaps .valid s k (omega arith) (sym size ∙ e);
+        dated = omega (arith, core .snaps .dated s k);
+      }
 
   -- ---- A snapshot whose flag and closing stand.
 
@@ -137,7 +147,7 @@ module _ {T n x t a : ℕ} {w w' : World} (core : Core T n x w) (g : Grows x t a
             omega (arith, same, g .ages s' l' .ann, core .snaps .apart s s' l l' h)
         go (no i) = omega (arith, same, core .snaps .spans s l shut .1, g .new s' (omega arith) (k' .there))
 
-    snaps-grow : {x' : ℕ} → ((s : ℕ) → Known w' s → Timed T x' w' s) → ((s : ℕ) → Known w' s → Valued T w' s) → Snaps T x' w'
+    snaps-grow : {x' : ℕ} → ((s : ℕ) → Known w' s → Timed T x' w' s) → ((s : ℕ) → Known w' s → Valued T x' w' s) → Snaps T x' w'
     snaps-grow timed valued =
         record {
           none = none;
@@ -153,10 +163,12 @@ module _ {T n x t a : ℕ} {w w' : World} (core : Core T n x w) (g : Grows x t a
           fair = λ s k. valued s k .fair;
           kept = λ s k. timed s k .kept;
           fixed = λ s k. valued s k .fixed;
+          valid = λ s k. valued s k .valid;
+          dated = λ s k. valued s k .dated;
         }
 
   -- where flags and closings stand
-  snaps-steady : {x' : ℕ} → x ≤ x' → Steady w w' → ((s : ℕ) → Known w s → Valued T w' s) → Snaps T x' w'
+  snaps-steady : {x' : ℕ} → x ≤ x' → Steady w w' → ((s : ℕ) → Known w s → Valued T x' w' s) → Snaps T x' w'
   snaps-steady later same valued =
       snaps-grow (same .flag 0 ∙ core .snaps .none) (same .closed 0 ∙ core .snaps .noneClosed) (λ s h. same .closed s ∙ core .snaps .future s (omega (arith, same .cur)))
       (λ s h. (omega (arith, same .cur), core .snaps .past s (omega (arith, same .cur)))) (λ s k. timed-stands later (same .flag s) (same .closed s) (back s k)) (λ s k. valued s (back s k))
@@ -168,7 +180,7 @@ module _ {T n x t a : ℕ} {w w' : World} (core : Core T n x w) (g : Grows x t a
   pub snaps-stand : {x' : ℕ} → x ≤ x' → table w' ≡ table w → Snaps T x' w'
   snaps-stand later e =
       snaps-steady later (record { cur = ap (λ (p : Table). p .0) e; flag = λ s. ap (λ (p : Table). p .1 s) e; closed = λ s. ap (λ (p : Table). p .2 s) e })
-      (λ s. valued-stands (λ q. ap (λ (p : Table). p .3 s q) e) (ap (λ (p : Table). p .4 s) e))
+      (λ s. valued-stands later (λ q. ap (λ (p : Table). p .3 s q) e) (ap (λ (p : Table). p .4 s) e) (ap (λ (p : Table). p .5 s) e))
 
 -- ---- A cell that is written: forwarded or collected.
 
@@ -186,11 +198,13 @@ module _ {T n x t o : ℕ} {w : World} (core : Core T n x w) (now : Acting T n x
       w' : World
       w' = write m p v w
 
-      valued : (s : ℕ) → Known w s → Valued T w' s
+      valued : (s : ℕ) → Known w s → Valued T (suc x) w' s
       valued s k =
           record {
             fair = λ q h. write-case (λ c. c ≢ invalid → Fair w' s q c) w m p v s q (λ e e' i. fair-grows core g k (rw (e, e') new)) (λ i. fair-grows core g k (core .snaps .fair s k q h i));
             fixed = fixed-stands core g k refl;
+            valid = core .snaps .valid s k;
+            dated = omega (arith, core .snaps .dated s k);
           }
 
   -- u's target, and all of its counter's updates up to u were raised no later than u
@@ -265,11 +279,16 @@ module _ {T n x t o : ℕ} {w : World} (core : Core T n x w) (now : Acting T n x
             kept = λ h. absurd (omega (arith, unclosed));
           }
 
-      new-valued : Valued T w' m
+      unfixed : w' .fixed m ≡ 0
+      unfixed = put-same (w .fixed) m 0
+
+      new-valued : Valued T (suc x) w' m
       new-valued =
           record {
             fair = λ q h v. absurd (v (ap (λ (f : ℕ → ℕ). f q) (put-same (w .cell) m (λ q. fresh q)) ∙ fresh-invalid q (omega arith)));
             fixed = λ v. absurd (v (put-same (w .size) m invalid));
+            valid = λ h. absurd (omega (arith, unfixed));
+            dated = omega (arith, unfixed);
           }
 
       timed : (s : ℕ) → Known w' s → Timed T (suc x) w' s
@@ -279,23 +298,23 @@ module _ {T n x t o : ℕ} {w : World} (core : Core T n x w) (now : Acting T n x
           go (yes e) = rw e new-timed
           go (no e) = timed-stands core g (omega arith) (rest-flag s e) (rest-closed s e) (back s e k)
 
-      valued : (s : ℕ) → Known w' s → Valued T w' s
+      valued : (s : ℕ) → Known w' s → Valued T (suc x) w' s
       valued s k = go (ℕ-discrete s m)
         where
-          go : Dec (s ≡ m) → Valued T w' s
+          go : Dec (s ≡ m) → Valued T (suc x) w' s
           go (yes e) = rw e new-valued
-          go (no e) = valued-stands core g (λ q. ap (λ (f : ℕ → ℕ). f q) (put-other (w .cell) m (λ q. fresh q) s e)) (put-other (w .size) m invalid s e) (back s e k)
+          go (no e) = valued-stands core g (omega arith) (λ q. ap (λ (f : ℕ → ℕ). f q) (put-other (w .cell) m (λ q. fresh q) s e)) (put-other (w .size) m invalid s e) (put-other (w .fixed) m 0 s e) (back s e k)
 
   -- ---- The flag is lowered: of the snapshot that is being collected, or of one that has closed.
 
   module _ (m : ℕ) (l : Lowering T w o m) (g : Grows x t o w (lower m t w)) where
     lower-closed : w .flag m ≡ false → Snaps T (suc x) (lower m t w)
-    lower-closed down = snaps-steady core g (omega arith) (record { cur = refl; flag = λ s. put-field (λ b. b) (w .flag) m false s (sym down); closed = λ s. put-field (λ c. c) (w .closed) m _ s (rw down) }) (λ s. valued-stands core g (λ q. refl) refl)
+    lower-closed down = snaps-steady core g (omega arith) (record { cur = refl; flag = λ s. put-field (λ b. b) (w .flag) m false s (sym down); closed = λ s. put-field (λ c. c) (w .closed) m _ s (rw down) }) (λ s. valued-stands core g (omega arith) (λ q. refl) refl refl)
 
     lower-open : w .flag m ≡ true → Snaps T (suc x) (lower m t w)
     lower-open up =
         snaps-grow core g (put-other (w .flag) m false 0 (omega (arith, known .some)) ∙ core .snaps .none) (closed-other 0 (omega (arith, known .some)) ∙ core .snaps .noneClosed)
-        (λ s h. closed-other s (omega (arith, known .there)) ∙ core .snaps .future s h) (λ s h. (omega arith, core .snaps .past s h)) timed (λ s k. valued-stands core g (λ q. refl) refl (back s k))
+        (λ s h. closed-other s (omega (arith, known .there)) ∙ core .snaps .future s h) (λ s h. (omega arith, core .snaps .past s h)) timed (λ s k. valued-stands core g (omega arith) (λ q. refl) refl refl (back s k))
       where
         w' : World
         w' = lower m t w
@@ -347,15 +366,27 @@ module _ {T n x t o : ℕ} {w : World} (core : Core T n x w) (now : Acting T n x
       seen : w' .seen m ≡ w .mine t
       seen = put-same (w .seen) m (w .mine t)
 
-      fixed-now : Fixed T w' m
-      fixed-now = fixed-by core g (d .summing .using' .known) (d .summing .closed) (put-same (w .size) m v ∙ rw seen (d .sum)) (rw seen (d .summing .reads)) (rw seen (d .summing .rest))
+      dated : w' .fixed m ≡ suc x
+      dated = put-same (w .fixed) m (w .clock) ∙ now .clock
 
-      valued : (s : ℕ) → Known w s → Valued T w' s
-      valued s k = record { fair = λ q. fair-stands core g k q refl; fixed = go (ℕ-discrete s m) }
+      known : Known w m
+      known = d .summing .using' .known
+
+      fixed-now : Fixed T w' m
+      fixed-now = fixed-by core g known (d .summing .closed) (omega (arith, dated, core .snaps .spans m known (d .summing .closed) .1)) (put-same (w .size) m v ∙ rw seen (d .sum)) (rw seen (d .summing .reads)) (rw seen (d .summing .rest))
+
+      valued : (s : ℕ) → Known w s → Valued T (suc x) w' s
+      valued s k = go (ℕ-discrete s m)
         where
-          go : Dec (s ≡ m) → w' .size s ≢ invalid → Fixed T w' s
-          go (yes e) i = rw e fixed-now
-          go (no e) i = fixed-stands core g k (put-other (w .size) m v s e) i
+          go : Dec (s ≡ m) → Valued T (suc x) w' s
+          go (yes e) =
+              record {
+                fair = λ q. fair-stands core g k q refl;
+                fixed = λ i. rw e fixed-now;
+                valid = λ h. rw (e, put-same (w .size) m v) (d .valid);
+                dated = rw e (omega (arith, dated));
+              }
+          go (no e) = valued-stands core g (omega arith) (λ q. refl) (put-other (w .size) m v s e) (put-other (w .fixed) m (w .clock) s e) k
 
   -- ---- By deed.
 

@@ -48,7 +48,7 @@ log w = record { clock = w .clock; asked = w .asked; first = w .first; last = w 
 
 -- the state with this written down instead
 abbrev pub logged : Log → World → World
-logged l w = record { clock = l .clock; asked = l .asked; first = l .first; last = l .last; answer = w .answer; read = l .read; found = w .found; exch = l .exch; target = l .target; raised = l .raised; window = w .window; used = w .used; op = l .op; point = w .point; mine = w .mine; count = l .count; cur = w .cur; flag = w .flag; size = w .size; ann = w .ann; closed = w .closed; cell = w .cell; seen = w .seen; held = w .held; content = w .content }
+logged l w = record { clock = l .clock; asked = l .asked; first = l .first; last = l .last; answer = w .answer; read = l .read; found = w .found; exch = l .exch; target = l .target; raised = l .raised; window = w .window; used = w .used; op = l .op; point = w .point; mine = w .mine; count = l .count; cur = w .cur; flag = w .flag; size = w .size; ann = w .ann; closed = w .closed; fixed = w .fixed; cell = w .cell; seen = w .seen; held = w .held; content = w .content }
 
 -- what reads nothing else of the state holds wherever the same is written down
 pub log-holds : (P : World → Type 0) (w w' : World) → log w' ≡ log w → P (logged (log w) w') → P w'

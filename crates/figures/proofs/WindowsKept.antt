@@ -1,9 +1,9 @@
 -- The windows of the raised updates are kept by each part of a step.
 use Prim.Native.Nat.{ℕ, suc, _≤_, _<_}
 use mathlib.Core.Path.{_≡_, refl, sym, ap, _∙_}
-use mathlib.Core.Bool.{true}
 use native.Mathlib.Omega.{arith}
 use native.Mathlib.Decide.{ℕ-discrete, decLe, decLt}
+use borrow.Author.Tests.{eq-eqb}
 use Rattle.figures.specs.declared.Update.{Update}
 use Rattle.figures.specs.declared.UpdateDeed.{UpdateDeed}
 use Rattle.figures.specs.declared.UpdateDeed.the-variants.{Reads, Raises, Forwards}
@@ -13,7 +13,7 @@ use Rattle.figures.specs.declared.Deed.{Deed}
 use Rattle.figures.specs.declared.Deed.the-variants.{Rests, Finds, Links, Marks, Unlinks, Updates, Sizes}
 use Rattle.figures.specs.declared.Next.{Next}
 use Rattle.figures.specs.declared.Next.the-variants.{To, Returns}
-use Rattle.figures.proofs.Laws.{test-case, cond-case, tests-differ}
+use Rattle.figures.proofs.Laws.{eq-case}
 use Rattle.figures.proofs.World.{World, put-same, put-other, tick, act, onward, raise, updateOp, updateCell, updateTarget}
 use Rattle.figures.proofs.Inv.{Core, Known, InWindow, Windows}
 use Rattle.figures.proofs.Grows.{Grows}
@@ -68,18 +68,15 @@ module _ {T n x t a : ℕ} {w w' : World} (core : Core T n x w) (g : Grows x t a
   pub windows-still : w' .raised ≡ w .raised → Windows w'
   windows-still same = windows-grow (λ u e p. absurd (omega (arith, ap (λ (f : ℕ → ℕ). f u) same)))
 
--- ---- A raising: the window is the snapshot that is being collected, if there is one.
+-- ---- A raising: the window is the snapshot that is announced and not closed, if there is one.
 
 module _ {T n x t o : ℕ} {w : World} (core : Core T n x w) (now : Acting T n x w t o) where
-  -- collected now, so not closed
-  collected : (s : ℕ) → Known w s → w .closed s ≡ 0 → (w .flag s ≡ true) × (s ≡ w .cur)
-  collected s k c = (up, go (decLt s (w .cur)))
+  -- announced and not closed, so the current one
+  unclosed-current : (s : ℕ) → Known w s → w .closed s ≡ 0 → s ≡ w .cur
+  unclosed-current s k c = go (decLt s (w .cur))
     where
-      up : w .flag s ≡ true
-      up = test-case (λ b. b ≡ true) (w .flag s) (λ e. refl) (λ e. absurd (omega (arith, core .snaps .shut s k e)))
-
       go : Dec (s < w .cur) → s ≡ w .cur
-      go (yes h) = tests-differ up (core .snaps .past s h)
+      go (yes h) = absurd (omega (arith, core .snaps .shut s k (core .snaps .past s h)))
       go (no h) = omega arith
 
   -- of the update v, raised now
@@ -92,19 +89,19 @@ module _ {T n x t o : ℕ} {w : World} (core : Core T n x w) (now : Acting T n x
       at : w' .raised v ≡ suc x
       at = put-same (w .raised) v (w .clock) ∙ now .clock
 
-      here : Known w (w .cur) → w .flag (w .cur) ≡ true → InWindow w' v (w .cur)
-      here k f =
+      here : Known w (w .cur) → w .closed (w .cur) ≡ 0 → InWindow w' v (w .cur)
+      here k z =
           record {
             known = record { some = k .some; there = omega arith };
             after = omega (arith, at, core .snaps .announced (w .cur) k .1);
-            before = λ c. absurd (omega (arith, core .snaps .open' (w .cur) k f));
+            before = λ c. absurd (omega arith);
           }
 
       told : 0 < w' .window v → InWindow w' v (w' .window v)
-      told = rw put-same (cond-case (λ m. 0 < m → InWindow w' v m) (w .flag (w .cur)) (w .cur) 0 (λ f h. here (record { some = h; there = omega arith }) f) (λ f h. absurd (omega arith)))
+      told = rw put-same (eq-case (λ m. 0 < m → InWindow w' v m) (w .closed (w .cur)) 0 (w .cur) 0 (λ z h. here (record { some = h; there = omega arith }) z) (λ z h. absurd (omega arith)))
 
       only : (s : ℕ) → InWindow w' v s → w' .window v ≡ s
-      only s i = rw (put-same, rw e at f) (sym e)
+      only s i = rw (put-same, eq-eqb (w .closed (w .cur)) 0 (rw e at z)) (sym e)
         where
           k : Known w s
           k = record { some = i .known .some; there = i .known .there }
@@ -113,14 +110,11 @@ module _ {T n x t o : ℕ} {w : World} (core : Core T n x w) (now : Acting T n x
           unclosed (yes z) = z
           unclosed (no z) = absurd (omega (arith, at, i .before (omega arith), core .snaps .spans s k (omega arith) .1))
 
-          found : (w .flag s ≡ true) × (s ≡ w .cur)
-          found = collected s k (unclosed (ℕ-discrete (w .closed s) 0))
-
-          f : w .flag s ≡ true
-          f = found .0
+          z : w .closed s ≡ 0
+          z = unclosed (ℕ-discrete (w .closed s) 0)
 
           e : s ≡ w .cur
-          e = found .1
+          e = unclosed-current s k z
 
   windows-raise : (u : Update) → Grows x t o w (act (Updates Raises u) t o w) → Windows (act (Updates Raises u) t o w)
   windows-raise u g = windows-grow core g new

@@ -118,6 +118,7 @@ pub record World : Type 0 where
   pub size : ℕ → ℕ
   pub ann : ℕ → ℕ
   pub closed : ℕ → ℕ
+  pub fixed : ℕ → ℕ
   pub cell : ℕ → ℕ → ℕ
   pub seen : ℕ → ℕ → ℕ
   pub held : ℕ → ℕ → ℕ
@@ -140,45 +141,45 @@ cellOp w u = cellNo (thr w u) (kindOf (call w u))
 -- ---- What the parts of a step change. After `tick` the clock is the step's number.
 
 abbrev pub tick : ℕ → World → World
-tick o w = record { clock = suc (w .clock); asked = w .asked; first = put (w .first) o (cond (eqb (w .first o) 0) (suc (w .clock)) (w .first o)); last = w .last; answer = w .answer; read = w .read; found = w .found; exch = w .exch; target = w .target; raised = w .raised; window = w .window; used = w .used; op = w .op; point = w .point; mine = w .mine; count = w .count; cur = w .cur; flag = w .flag; size = w .size; ann = w .ann; closed = w .closed; cell = w .cell; seen = w .seen; held = w .held; content = w .content }
+tick o w = record { clock = suc (w .clock); asked = w .asked; first = put (w .first) o (cond (eqb (w .first o) 0) (suc (w .clock)) (w .first o)); last = w .last; answer = w .answer; read = w .read; found = w .found; exch = w .exch; target = w .target; raised = w .raised; window = w .window; used = w .used; op = w .op; point = w .point; mine = w .mine; count = w .count; cur = w .cur; flag = w .flag; size = w .size; ann = w .ann; closed = w .closed; fixed = w .fixed; cell = w .cell; seen = w .seen; held = w .held; content = w .content }
 
 abbrev pub find : ℕ → Content → World → World
-find o c w = record { clock = w .clock; asked = w .asked; first = w .first; last = w .last; answer = w .answer; read = put (w .read) o (w .clock); found = put (w .found) o c; exch = w .exch; target = w .target; raised = w .raised; window = w .window; used = w .used; op = w .op; point = w .point; mine = w .mine; count = w .count; cur = w .cur; flag = w .flag; size = w .size; ann = w .ann; closed = w .closed; cell = w .cell; seen = w .seen; held = w .held; content = w .content }
+find o c w = record { clock = w .clock; asked = w .asked; first = w .first; last = w .last; answer = w .answer; read = put (w .read) o (w .clock); found = put (w .found) o c; exch = w .exch; target = w .target; raised = w .raised; window = w .window; used = w .used; op = w .op; point = w .point; mine = w .mine; count = w .count; cur = w .cur; flag = w .flag; size = w .size; ann = w .ann; closed = w .closed; fixed = w .fixed; cell = w .cell; seen = w .seen; held = w .held; content = w .content }
 
 -- the slot exchange of o succeeded, with target g; the slot of its key holds c
 abbrev pub exchange : ℕ → ℕ → Content → World → World
-exchange o g c w = record { clock = w .clock; asked = w .asked; first = w .first; last = w .last; answer = w .answer; read = w .read; found = w .found; exch = put (w .exch) o (w .clock); target = put (w .target) o g; raised = w .raised; window = w .window; used = w .used; op = w .op; point = w .point; mine = w .mine; count = w .count; cur = w .cur; flag = w .flag; size = w .size; ann = w .ann; closed = w .closed; cell = w .cell; seen = w .seen; held = w .held; content = put (w .content) (key w o) c }
+exchange o g c w = record { clock = w .clock; asked = w .asked; first = w .first; last = w .last; answer = w .answer; read = w .read; found = w .found; exch = put (w .exch) o (w .clock); target = put (w .target) o g; raised = w .raised; window = w .window; used = w .used; op = w .op; point = w .point; mine = w .mine; count = w .count; cur = w .cur; flag = w .flag; size = w .size; ann = w .ann; closed = w .closed; fixed = w .fixed; cell = w .cell; seen = w .seen; held = w .held; content = put (w .content) (key w o) c }
 
 abbrev pub empty : ℕ → World → World
-empty k w = record { clock = w .clock; asked = w .asked; first = w .first; last = w .last; answer = w .answer; read = w .read; found = w .found; exch = w .exch; target = w .target; raised = w .raised; window = w .window; used = w .used; op = w .op; point = w .point; mine = w .mine; count = w .count; cur = w .cur; flag = w .flag; size = w .size; ann = w .ann; closed = w .closed; cell = w .cell; seen = w .seen; held = w .held; content = put (w .content) k Empty }
+empty k w = record { clock = w .clock; asked = w .asked; first = w .first; last = w .last; answer = w .answer; read = w .read; found = w .found; exch = w .exch; target = w .target; raised = w .raised; window = w .window; used = w .used; op = w .op; point = w .point; mine = w .mine; count = w .count; cur = w .cur; flag = w .flag; size = w .size; ann = w .ann; closed = w .closed; fixed = w .fixed; cell = w .cell; seen = w .seen; held = w .held; content = put (w .content) k Empty }
 
 -- the update u brought its counter q to g
 abbrev pub raise : ℕ → ℕ → ℕ → World → World
-raise u q g w = record { clock = w .clock; asked = w .asked; first = w .first; last = w .last; answer = w .answer; read = w .read; found = w .found; exch = w .exch; target = w .target; raised = put (w .raised) u (w .clock); window = put (w .window) u (cond (w .flag (w .cur)) (w .cur) 0); used = w .used; op = w .op; point = w .point; mine = w .mine; count = put (w .count) q g; cur = w .cur; flag = w .flag; size = w .size; ann = w .ann; closed = w .closed; cell = w .cell; seen = w .seen; held = w .held; content = w .content }
+raise u q g w = record { clock = w .clock; asked = w .asked; first = w .first; last = w .last; answer = w .answer; read = w .read; found = w .found; exch = w .exch; target = w .target; raised = put (w .raised) u (w .clock); window = put (w .window) u (cond (eqb (w .closed (w .cur)) 0) (w .cur) 0); used = w .used; op = w .op; point = w .point; mine = w .mine; count = put (w .count) q g; cur = w .cur; flag = w .flag; size = w .size; ann = w .ann; closed = w .closed; fixed = w .fixed; cell = w .cell; seen = w .seen; held = w .held; content = w .content }
 
 abbrev pub write : ℕ → ℕ → ℕ → World → World
-write n q v w = record { clock = w .clock; asked = w .asked; first = w .first; last = w .last; answer = w .answer; read = w .read; found = w .found; exch = w .exch; target = w .target; raised = w .raised; window = w .window; used = w .used; op = w .op; point = w .point; mine = w .mine; count = w .count; cur = w .cur; flag = w .flag; size = w .size; ann = w .ann; closed = w .closed; cell = put (w .cell) n (put (w .cell n) q v); seen = w .seen; held = w .held; content = w .content }
+write n q v w = record { clock = w .clock; asked = w .asked; first = w .first; last = w .last; answer = w .answer; read = w .read; found = w .found; exch = w .exch; target = w .target; raised = w .raised; window = w .window; used = w .used; op = w .op; point = w .point; mine = w .mine; count = w .count; cur = w .cur; flag = w .flag; size = w .size; ann = w .ann; closed = w .closed; fixed = w .fixed; cell = put (w .cell) n (put (w .cell n) q v); seen = w .seen; held = w .held; content = w .content }
 
 abbrev pub announce : World → World
-announce w = record { clock = w .clock; asked = w .asked; first = w .first; last = w .last; answer = w .answer; read = w .read; found = w .found; exch = w .exch; target = w .target; raised = w .raised; window = w .window; used = w .used; op = w .op; point = w .point; mine = w .mine; count = w .count; cur = suc (w .cur); flag = put (w .flag) (suc (w .cur)) true; size = put (w .size) (suc (w .cur)) invalid; ann = put (w .ann) (suc (w .cur)) (w .clock); closed = put (w .closed) (suc (w .cur)) 0; cell = put (w .cell) (suc (w .cur)) (λ q. fresh q); seen = put (w .seen) (suc (w .cur)) (λ q. 0); held = w .held; content = w .content }
+announce w = record { clock = w .clock; asked = w .asked; first = w .first; last = w .last; answer = w .answer; read = w .read; found = w .found; exch = w .exch; target = w .target; raised = w .raised; window = w .window; used = w .used; op = w .op; point = w .point; mine = w .mine; count = w .count; cur = suc (w .cur); flag = put (w .flag) (suc (w .cur)) true; size = put (w .size) (suc (w .cur)) invalid; ann = put (w .ann) (suc (w .cur)) (w .clock); closed = put (w .closed) (suc (w .cur)) 0; fixed = put (w .fixed) (suc (w .cur)) 0; cell = put (w .cell) (suc (w .cur)) (λ q. fresh q); seen = put (w .seen) (suc (w .cur)) (λ q. 0); held = w .held; content = w .content }
 
 abbrev pub lower : ℕ → ℕ → World → World
-lower n t w = record { clock = w .clock; asked = w .asked; first = w .first; last = w .last; answer = w .answer; read = w .read; found = w .found; exch = w .exch; target = w .target; raised = w .raised; window = w .window; used = w .used; op = w .op; point = w .point; mine = put (w .mine) t (λ q. 0); count = w .count; cur = w .cur; flag = put (w .flag) n false; size = w .size; ann = w .ann; closed = put (w .closed) n (cond (w .flag n) (w .clock) (w .closed n)); cell = w .cell; seen = w .seen; held = put (w .held) n (cond (w .flag n) (w .cell n) (w .held n)); content = w .content }
+lower n t w = record { clock = w .clock; asked = w .asked; first = w .first; last = w .last; answer = w .answer; read = w .read; found = w .found; exch = w .exch; target = w .target; raised = w .raised; window = w .window; used = w .used; op = w .op; point = w .point; mine = put (w .mine) t (λ q. 0); count = w .count; cur = w .cur; flag = put (w .flag) n false; size = w .size; ann = w .ann; closed = put (w .closed) n (cond (w .flag n) (w .clock) (w .closed n)); fixed = w .fixed; cell = w .cell; seen = w .seen; held = put (w .held) n (cond (w .flag n) (w .cell n) (w .held n)); content = w .content }
 
 abbrev pub keep : ℕ → ℕ → ℕ → World → World
-keep t q v w = record { clock = w .clock; asked = w .asked; first = w .first; last = w .last; answer = w .answer; read = w .read; found = w .found; exch = w .exch; target = w .target; raised = w .raised; window = w .window; used = w .used; op = w .op; point = w .point; mine = put (w .mine) t (put (w .mine t) q v); count = w .count; cur = w .cur; flag = w .flag; size = w .size; ann = w .ann; closed = w .closed; cell = w .cell; seen = w .seen; held = w .held; content = w .content }
+keep t q v w = record { clock = w .clock; asked = w .asked; first = w .first; last = w .last; answer = w .answer; read = w .read; found = w .found; exch = w .exch; target = w .target; raised = w .raised; window = w .window; used = w .used; op = w .op; point = w .point; mine = put (w .mine) t (put (w .mine t) q v); count = w .count; cur = w .cur; flag = w .flag; size = w .size; ann = w .ann; closed = w .closed; fixed = w .fixed; cell = w .cell; seen = w .seen; held = w .held; content = w .content }
 
 abbrev pub fix : ℕ → ℕ → ℕ → ℕ → World → World
-fix n v t o w = record { clock = w .clock; asked = w .asked; first = w .first; last = w .last; answer = w .answer; read = w .read; found = w .found; exch = w .exch; target = w .target; raised = w .raised; window = w .window; used = put (w .used) o n; op = w .op; point = w .point; mine = w .mine; count = w .count; cur = w .cur; flag = w .flag; size = put (w .size) n v; ann = w .ann; closed = w .closed; cell = w .cell; seen = put (w .seen) n (w .mine t); held = w .held; content = w .content }
+fix n v t o w = record { clock = w .clock; asked = w .asked; first = w .first; last = w .last; answer = w .answer; read = w .read; found = w .found; exch = w .exch; target = w .target; raised = w .raised; window = w .window; used = put (w .used) o n; op = w .op; point = w .point; mine = w .mine; count = w .count; cur = w .cur; flag = w .flag; size = put (w .size) n v; ann = w .ann; closed = w .closed; fixed = put (w .fixed) n (w .clock); cell = w .cell; seen = put (w .seen) n (w .mine t); held = w .held; content = w .content }
 
 abbrev pub share : ℕ → ℕ → World → World
-share n o w = record { clock = w .clock; asked = w .asked; first = w .first; last = w .last; answer = w .answer; read = w .read; found = w .found; exch = w .exch; target = w .target; raised = w .raised; window = w .window; used = put (w .used) o n; op = w .op; point = w .point; mine = w .mine; count = w .count; cur = w .cur; flag = w .flag; size = w .size; ann = w .ann; closed = w .closed; cell = w .cell; seen = w .seen; held = w .held; content = w .content }
+share n o w = record { clock = w .clock; asked = w .asked; first = w .first; last = w .last; answer = w .answer; read = w .read; found = w .found; exch = w .exch; target = w .target; raised = w .raised; window = w .window; used = put (w .used) o n; op = w .op; point = w .point; mine = w .mine; count = w .count; cur = w .cur; flag = w .flag; size = w .size; ann = w .ann; closed = w .closed; fixed = w .fixed; cell = w .cell; seen = w .seen; held = w .held; content = w .content }
 
 abbrev pub stand : ℕ → Point → World → World
-stand t p w = record { clock = w .clock; asked = w .asked; first = w .first; last = w .last; answer = w .answer; read = w .read; found = w .found; exch = w .exch; target = w .target; raised = w .raised; window = w .window; used = w .used; op = w .op; point = put (w .point) t p; mine = w .mine; count = w .count; cur = w .cur; flag = w .flag; size = w .size; ann = w .ann; closed = w .closed; cell = w .cell; seen = w .seen; held = w .held; content = w .content }
+stand t p w = record { clock = w .clock; asked = w .asked; first = w .first; last = w .last; answer = w .answer; read = w .read; found = w .found; exch = w .exch; target = w .target; raised = w .raised; window = w .window; used = w .used; op = w .op; point = put (w .point) t p; mine = w .mine; count = w .count; cur = w .cur; flag = w .flag; size = w .size; ann = w .ann; closed = w .closed; fixed = w .fixed; cell = w .cell; seen = w .seen; held = w .held; content = w .content }
 
 abbrev pub return : ℕ → ℕ → ℕ → World → World
-return t o a w = record { clock = w .clock; asked = w .asked; first = w .first; last = put (w .last) o (w .clock); answer = put (w .answer) o a; read = w .read; found = w .found; exch = w .exch; target = w .target; raised = w .raised; window = w .window; used = w .used; op = put (w .op) t (suc o); point = put (w .point) t Idle; mine = w .mine; count = w .count; cur = w .cur; flag = w .flag; size = w .size; ann = w .ann; closed = w .closed; cell = w .cell; seen = w .seen; held = w .held; content = w .content }
+return t o a w = record { clock = w .clock; asked = w .asked; first = w .first; last = put (w .last) o (w .clock); answer = put (w .answer) o a; read = w .read; found = w .found; exch = w .exch; target = w .target; raised = w .raised; window = w .window; used = w .used; op = put (w .op) t (suc o); point = put (w .point) t Idle; mine = w .mine; count = w .count; cur = w .cur; flag = w .flag; size = w .size; ann = w .ann; closed = w .closed; fixed = w .fixed; cell = w .cell; seen = w .seen; held = w .held; content = w .content }
 
 -- ---- A step.
 

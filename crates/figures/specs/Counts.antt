@@ -1,22 +1,23 @@
 -- What the counts that a run hands back mean, over its schedule, and what is asked of a run: the limits of document 01.
 use Prim.Native.Nat.{ℕ, zero, suc, _+_, _-_, _*_, _≤_, _<_}
 use mathlib.Core.Path.{_≡_}
-use mathlib.Core.Bool.{Bool, true, false, cond, not, _&&_, _||_}
+use mathlib.Core.Bool.{Bool, true, false, not, _&&_}
 use mathlib.Core.List.{List, [], _∷_}
 use lib.ListN.{length, getD, take}
-use lib.Dec.{eqb, ltb, leb}
+use lib.Dec.{leb}
+use Rattle.history.specs.Steps.{stepsThat}
+use Rattle.history.specs.Steps as Steps
 use Rattle.terms.specs.declared.OpId.{OpId}
 use Rattle.figures.specs.declared.SizeDeed.{SizeDeed}
 use Rattle.figures.specs.declared.SizeDeed.the-variants.{Looks, Announces, Collects, Lowers, Keeps, Fixes, Shares}
 use Rattle.figures.specs.declared.Call.the-variants.{Size}
 use Rattle.figures.specs.declared.Deed.{Deed}
 use Rattle.figures.specs.declared.Deed.the-variants.{Rests, Finds, Links, Marks, Unlinks, Updates, Sizes}
-use Rattle.figures.specs.declared.Outcome.{Outcome}
 use Rattle.figures.specs.declared.Record.{Record}
 use Rattle.figures.specs.declared.Machine.{Machine}
 use Rattle.figures.specs.Limits.{mostThreads, mostKeys, mostOperations, mostSteps}
 use Rattle.figures.specs.Step.{localAt, recordAt, moveOf, runOf}
-use Rattle.figures.specs.Start.{keyOf}
+use Rattle.figures.specs.Codec.{keyOf}
 
 -- how many operations the threads before thread t have: where its own begin
 abbrev pub opsBefore : List ℕ → ℕ → ℕ
@@ -39,18 +40,9 @@ pub record Within (threads keys : ℕ) (counts ops schedule : List ℕ) : Type 0
   pub most-steps : length schedule ≤ mostSteps
   pub steps : (s : ℕ) → s < length schedule → getD schedule s 0 < threads
 
--- how many steps of a schedule pass a test on the step's number and its thread; the first step's number is s
-unfoldable pub stepsThat : (ℕ → ℕ → Bool) → ℕ → List ℕ → ℕ
-stepsThat test s [] = 0
-stepsThat test s (t ∷ schedule) = cond (test s t) 1 0 + stepsThat test (suc s) schedule
-
--- from the operation's first step to its last: to the end if it is unfinished, never if it has not begun
-abbrev pub during : Outcome → ℕ → Bool
-during x s = ltb 0 (x .first) && (leb (x .first) s && (eqb (x .last) 0 || leb s (x .last)))
-
 -- own steps: the schedule's steps by that operation's thread, from its first to its last
 abbrev pub ownSteps : Record → List ℕ → ℕ
-ownSteps r schedule = stepsThat (λ s t. eqb t (r .asked .thread .0) && during (r .outcome) s) 1 schedule
+ownSteps r schedule = Steps.ownSteps (r .asked .thread .0) (r .outcome .first) (r .outcome .last) schedule
 
 -- the state before step s of a run
 abbrev pub stateBefore : Machine → List ℕ → ℕ → Machine

@@ -3,6 +3,7 @@ use Prim.Native.Nat.{ℕ, _+_, _%_, _^_}
 use mathlib.Core.Bool.{Bool, true, false, cond}
 use mathlib.Core.List.{List, []}
 use lib.ListN.{getD, set, replicate}
+use lib.Dec.{eqb}
 use Rattle.terms.specs.declared.ThreadId.{ThreadId}
 use Rattle.terms.specs.declared.SnapshotId.{SnapshotId}
 use Rattle.figures.specs.declared.Kind.{Kind}
@@ -49,13 +50,13 @@ abbrev pub freshSnapshot : Bool → Snapshot
 freshSnapshot collecting = record { cells = blockOf invalid; collecting = collecting; size = invalid }
 
 abbrev pub freshTrace : ℕ → Trace
-freshTrace step = record { announced = step; closed = 0; seen = blockOf 0 }
+freshTrace step = record { announced = step; closed = 0; fixed = 0; seen = blockOf 0 }
 
 abbrev pub noSnapshot : Snapshot
 noSnapshot = record { cells = []; collecting = false; size = 0 }
 
 abbrev pub noTrace : Trace
-noTrace = record { announced = 0; closed = 0; seen = [] }
+noTrace = record { announced = 0; closed = 0; fixed = 0; seen = [] }
 
 abbrev pub snapshotAt : Calculator → SnapshotId → Snapshot
 snapshotAt c n = getD (c .snapshots) (n .0) noSnapshot
@@ -75,9 +76,9 @@ sightOf c n j =
       size = s .size;
     }
 
--- the snapshot that is being collected, 0 if there is none
+-- the snapshot that is announced and not closed, 0 if there is none
 abbrev pub windowOf : Calculator → SnapshotId
-windowOf c = cond (snapshotAt c (c .current) .collecting) (c .current) (record { 0 = 0 })
+windowOf c = cond (eqb (traceAt c (c .current) .closed) 0) (c .current) (record { 0 = 0 })
 
 abbrev pub withSnapshot : SnapshotId → Snapshot → Calculator → Calculator
 withSnapshot n s c =
@@ -133,13 +134,13 @@ abbrev pub lowered : SnapshotId → ℕ → Calculator → Calculator
 lowered n step c =
     let s = snapshotAt c n in
     let t = traceAt c n in
-    withTrace n (record { announced = t .announced; closed = cond (s .collecting) step (t .closed); seen = t .seen })
+    withTrace n (record { announced = t .announced; closed = cond (s .collecting) step (t .closed); fixed = t .fixed; seen = t .seen })
     (withSnapshot n (record { cells = s .cells; collecting = false; size = s .size }) c)
 
--- the size of snapshot n is v now, the sum of what its winner has seen
-abbrev pub fixed : SnapshotId → ℕ → List Counts → Calculator → Calculator
-fixed n v seen c =
+-- the size of snapshot n is v now, the sum of what its winner has seen; that is its fixing
+abbrev pub fixed : SnapshotId → ℕ → ℕ → List Counts → Calculator → Calculator
+fixed n v step seen c =
     let s = snapshotAt c n in
     let t = traceAt c n in
-    withTrace n (record { announced = t .announced; closed = t .closed; seen = seen })
+    withTrace n (record { announced = t .announced; closed = t .closed; fixed = step; seen = seen })
     (withSnapshot n (record { cells = s .cells; collecting = s .collecting; size = v }) c)

@@ -1,4 +1,5 @@
 pub mod Limits
+pub mod Codec
 pub mod Figure4
 pub mod Figure6
 pub mod Figure5
@@ -6,6 +7,7 @@ pub mod Figure3
 pub mod Step
 pub mod Start
 pub mod Places
-pub mod Demand
 pub mod Counts
+pub mod Events
+pub mod Rules
 pub mod Ranges

@@ -1,6 +1,6 @@
--- Where an operation stands in the log, told of the machine after the run.
-use Prim.Native.Nat.{ℕ, _+_, _*_, _%_, _^_}
-use mathlib.Core.Bool.{Bool, true, false, cond, not, _&&_, _||_}
+-- Where an operation stands in the log, told of the machine after the run; its course, and the log.
+use Prim.Native.Nat.{ℕ}
+use mathlib.Core.Bool.{Bool, cond, not, _&&_}
 use mathlib.Core.List.{List}
 use lib.Dec.{eqb, ltb}
 use Rattle.terms.specs.declared.OpId.{OpId}
@@ -13,12 +13,15 @@ use Rattle.figures.specs.declared.Content.the-variants.{Empty, Live, Mar
 use Rattle.figures.specs.declared.Call.{Call}
 use Rattle.figures.specs.declared.Call.the-variants.{Insert, Delete, Contains, Size}
 use Rattle.figures.specs.declared.Record.{Record}
-use Rattle.figures.specs.declared.Place.{Place}
 use Rattle.figures.specs.declared.Machine.{Machine}
-use Rattle.figures.specs.Limits.{invalid}
-use Rattle.figures.specs.Figure4.{countAt, snapshotAt, traceAt}
+use Rattle.figures.specs.Figure4.{countAt, traceAt}
 use Rattle.figures.specs.Step.{recordAt}
-use Rattle.history.specs.Order.{Entry, log, entries}
+use Rattle.history.specs.declared.Place.{Place}
+use Rattle.history.specs.PlainSet.{Ask, insert, delete, contains, size}
+use Rattle.history.specs.Order.{Entry}
+use Rattle.history.specs.Places.{place}
+use Rattle.history.specs.Courses.{Course, ordered, logged}
+use Rattle.history.specs.Courses as Courses
 
 abbrev pub op : ℕ → OpId
 op o = record { 0 = o }
@@ -29,13 +32,6 @@ returned r = ltb 0 (r .outcome .last)
 
 abbrev pub wasRaised : Record → Bool
 wasRaised r = ltb 0 (r .change .raised)
-
--- only returned operations and raised updates are listed
-abbrev pub listed : Machine → ℕ → Bool
-listed m o = returned (recordAt m (op o)) || wasRaised (recordAt m (op o))
-
-abbrev pub place : ℕ → ℕ → ℕ → ℕ → Place
-place step rank tie read = record { step = step; rank = rank; tie = tie; read = read }
 
 -- size: at its snapshot's closing; several by thread number
 abbrev pub sizeStands : Machine → Record → Place
@@ -56,7 +52,7 @@ ownCell r = record { thread = r .asked .thread; kind = kindOf (r .asked .call) }
 abbrev pub missed : Machine → Record → Bool
 missed m r =
     let s = r .change .window in
-    not (eqb (s .0) 0) && not (eqb (snapshotAt (m .calculator) s .size) invalid)
+    not (eqb (s .0) 0) && not (eqb (traceAt (m .calculator) s .fixed) 0)
     && ltb (countAt (traceAt (m .calculator) s .seen) (ownCell r)) (r .change .target .0)
 
 -- update: at its raising; the exception directly after that closing and its sizes. Several such go by raising step
@@ -87,16 +83,37 @@ stands m Size r = sizeStands m r
 unfoldable pub placeOf : Machine → ℕ → Place
 placeOf m o = stands m (recordAt m (op o) .asked .call) (recordAt m (op o))
 
--- one number that orders the log (no run has 8,192 steps)
-abbrev pub numberOf : Place → ℕ
-numberOf p = ((p .step * 2 + p .rank) * 2 ^ 13 + p .tie % 2 ^ 13) * 2 ^ 13 + p .read % 2 ^ 13
+-- what an operation asks of the plain set
+abbrev pub askOf : Call → ℕ → Ask
+askOf Insert k = insert k
+askOf Delete k = delete k
+askOf Contains k = contains k
+askOf Size k = size
 
-unfoldable pub orderOf : Machine → ℕ → ℕ
-orderOf m o = numberOf (placeOf m o)
+-- its course: an update changes the set once it is raised, so only returned operations and raised updates are listed
+abbrev pub courseAt : Record → Place → Course
+courseAt r p =
+    record {
+      ask = askOf (r .asked .call) (r .asked .key);
+      first = r .outcome .first;
+      last = r .outcome .last;
+      answer = r .outcome .answer;
+      changed = wasRaised r;
+      place = p;
+    }
+
+abbrev pub courseOf : Machine → ℕ → Course
+courseOf m o = courseAt (recordAt m (op o)) (placeOf m o)
+
+abbrev pub listed : Machine → ℕ → Bool
+listed m o = Courses.listed (courseOf m o)
+
+abbrev pub orderOf : Machine → ℕ → ℕ
+orderOf m o = Courses.orderOf (courseOf m o)
 
 -- the log of a run with n operations: operation and step, in order of place
 abbrev pub orderedOf : Machine → ℕ → List ℕ
-orderedOf m n = log n (listed m) (orderOf m)
+orderedOf m n = ordered n (courseOf m)
 
 abbrev pub logOf : Machine → ℕ → List Entry
-logOf m n = entries (λ o. placeOf m o .step) (orderedOf m n)
+logOf m n = logged n (courseOf m)

@@ -7,13 +7,12 @@ use lib.Seq.{sets}
 use lib.Dec.{eqb, ltb}
 use Rattle.figures.specs.declared.Calculator.{Calculator}
 use Rattle.figures.specs.declared.Content.the-variants.{Empty}
-use Rattle.figures.specs.declared.Call.{Call}
-use Rattle.figures.specs.declared.Call.the-variants.{Insert, Delete, Contains, Size}
 use Rattle.figures.specs.declared.Point.the-variants.{Idle}
 use Rattle.figures.specs.declared.Local.{Local}
 use Rattle.figures.specs.declared.Record.{Record}
 use Rattle.figures.specs.declared.Machine.{Machine}
 use Rattle.figures.specs.Limits.{mostKeys, mostOperations, invalid}
+pub use Rattle.figures.specs.Codec.{callOf, keyOf}
 use Rattle.figures.specs.Figure4.{blockOf, freshSnapshot, freshTrace}
 use Rattle.figures.specs.Figure5.{none}
 use Rattle.figures.specs.Step.{noSlot}
@@ -27,13 +26,6 @@ calculatorStart =
       snapshots = replicate (suc mostOperations) (freshSnapshot false);
       traces = replicate (suc mostOperations) (freshTrace 0);
     }
-
--- an operation byte is kind × 64 + key
-abbrev pub callOf : ℕ → Call
-callOf b = cond (ltb b 64) Insert (cond (ltb b 128) Delete (cond (ltb b 192) Contains Size))
-
-abbrev pub keyOf : ℕ → ℕ
-keyOf b = b % 64
 
 -- an operation that has not begun
 abbrev pub unbegun : ℕ → ℕ → Record

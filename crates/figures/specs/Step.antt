@@ -213,7 +213,7 @@ sizes (Collects n j v) t o m = calculated (written n j v) m
 sizes (Lowers n) t o m = moved t (withSeen (blockOf 0)) (calculated (lowered n (m .clock)) m)
 sizes (Keeps j v) t o m = moved t (withSeen (setCount (localAt m t .seen) j v)) m
 sizes (Fixes n v) t o m =
-    rewritten o (withUsed n) (calculated (fixed n v (localAt m t .seen)) m)
+    rewritten o (withUsed n) (calculated (fixed n v (m .clock) (localAt m t .seen)) m)
 sizes (Shares n) t o m = rewritten o (withUsed n) m
 
 abbrev pub does : Deed → ThreadId → OpId → Machine → Machine

@@ -1,5 +1,6 @@
 // The state of a run: figure 4's classes, the slots, threads and operation records of figure 3, and what the log will need.
-// What each access does to it is defined in specs/, one file per figure; the code is in the crates `calculator` and `machine`.
+// What each access does to it is defined in specs/, one file per figure; the code is in the crates `calculator` (figures 4 to 6),
+// `accesses` (figure 3) and `machine`.
 use terms::Note;
 use terms::OpId;
 use terms::SnapshotId;
@@ -12,7 +13,15 @@ ghost use lib.Seq.{sets};
 ghost use Rattle.figures.specs.declared.Point.the-variants.{Idle};
 ghost use Rattle.figures.specs.Limits.{mostOperations};
 ghost use Rattle.figures.specs.Figure4.{blockOf};
-ghost use Rattle.figures.specs.Start.{calculatorStart, callOf, ownerOf, recordsOf, localsOf, startOf};
+ghost use Rattle.figures.specs.Codec.{callOf, keyOf, isSize};
+ghost use Rattle.figures.specs.Start.{calculatorStart, ownerOf, recordsOf, localsOf, startOf};
+
+// The limits as lengths: threads, keys, and records of snapshots, one for each operation and record 0.
+pub const THREADS: usize = Machine::THREADS as usize;
+
+pub const KEYS: usize = Machine::KEYS as usize;
+
+pub const SNAPSHOTS: usize = Machine::OPERATIONS + 1;
 
 // ---- Figures 4 to 6: the calculator.
 
@@ -38,25 +47,26 @@ pub struct Counts {
 // CountersSnapshot (figure 4, lines 48 to 51).
 #[repr(C)]
 pub struct Snapshot {
-    pub cells: [Counts; 8],
+    pub cells: [Counts; THREADS],
     pub collecting: bool,
     pub size: u32,
 }
 
-// What the log needs of a snapshot: the steps of its announcement and closing (0: not yet), and the values that its winner
-// read for its sum.
+// What the log needs of a snapshot: the steps of its announcement, its closing and its fixing (0: not yet), and the values that its
+// winner read for its sum.
 pub struct Trace {
     pub announced: u32,
     pub closed: u32,
-    pub seen: [Counts; 8],
+    pub fixed: u32,
+    pub seen: [Counts; THREADS],
 }
 
 // SizeCalculator (figure 4, lines 45 to 47), with every snapshot announced so far.
 pub struct Calculator {
-    pub counters: [Counts; 8],
+    pub counters: [Counts; THREADS],
     pub current: SnapshotId,
-    pub snapshots: [Snapshot; 65],
-    pub traces: [Trace; 65],
+    pub snapshots: [Snapshot; SNAPSHOTS],
+    pub traces: [Trace; SNAPSHOTS],
 }
 
 // What one access of the calculator can see: a counter, which snapshot is current, and of a snapshot its flag, a cell, its size.
@@ -212,7 +222,7 @@ pub struct Local {
     pub point: Point,
     pub op: OpId,
     pub end: OpId,
-    pub seen: [Counts; 8],
+    pub seen: [Counts; THREADS],
 }
 
 // What an operation asks, and for which thread.
@@ -255,15 +265,6 @@ pub struct Record {
     pub snapshot: SnapshotId,
 }
 
-// Where an operation stands in the log: at a step; there, sizes (rank 0) before all others (rank 1); sizes by thread and others by
-// raising step or own read (`tie`); and an update (0) before those that found it, by their read (`read`).
-pub struct Place {
-    pub step: u32,
-    pub rank: u32,
-    pub tie: u32,
-    pub read: u32,
-}
-
 // A run's whole state after `clock` steps.
 pub struct Machine {
     pub threads: u8,
@@ -271,15 +272,14 @@ pub struct Machine {
     pub clock: u32,
     pub idle: u32,
     pub calculator: Calculator,
-    pub slots: [Slot; 16],
-    pub locals: [Local; 8],
-    pub records: [Record; 64],
+    pub slots: [Slot; KEYS],
+    pub locals: [Local; THREADS],
+    pub records: [Record; Machine::OPERATIONS],
 }
 
-// ---- Memory at the start.
+// ---- The operation codec: an operation byte is kind × 64 + key.
 
-// An operation byte is kind × 64 + key.
-fn call_of(b: u8) -> Call
+pub fn call_of(b: u8) -> Call
     ensures { λ r. ⌜ r ≡ callOf b ⌝ }
 {
     if b < 64 {
@@ -293,16 +293,36 @@ fn call_of(b: u8) -> Call
     }
 }
 
+pub fn key_of(b: u8) -> u8
+    ensures { λ r. ⌜ r ≡ keyOf b ⌝ }
+{
+    b % 64
+}
+
+pub fn is_size(call: Call) -> bool
+    ensures { λ r. ⌜ r ≡ isSize call ⌝ }
+{
+    match call {
+        Call::Insert => false,
+        Call::Delete => false,
+        Call::Contains => false,
+        Call::Size => true,
+    }
+}
+
+// ---- Memory at the start.
+
 // An operation that has not begun.
 fn unbegun(thread: u8, b: u8) -> Record
     ensures { λ r. ⌜ r ≡ Rattle.figures.specs.Start.unbegun thread b ⌝ }
 {
     let call = call_of(b);
+    let key = key_of(b);
     Record {
         asked: Asked {
             thread: ThreadId(thread),
             call: call,
-            key: b % 64,
+            key: key,
         },
         outcome: Outcome {
             answer: Machine::INVALID,
@@ -331,12 +351,12 @@ fn wide(x: u16) -> usize
 }
 
 // The thread that has operation o: each thread's operations follow those of the thread before.
-fn owner_of(counts: [u16; 8], o: usize) -> u8
+fn owner_of(counts: [u16; THREADS], o: usize) -> u8
     ensures { λ r. ⌜ r ≡ ownerOf counts o ⌝ }
 {
     let mut left = o;
     let mut i: usize = 0;
-    while i < 8 {
+    while i < THREADS {
         let c = wide(counts[i]);
         if left < c {
             return i as u8;
@@ -344,16 +364,16 @@ fn owner_of(counts: [u16; 8], o: usize) -> u8
         left -= c;
         i += 1;
     }
-    8
+    Machine::THREADS
 }
 
-fn records_of(counts: [u16; 8], operations: &[u8]) -> [Record; 64]
+fn records_of(counts: [u16; THREADS], operations: &[u8]) -> [Record; Machine::OPERATIONS]
     ensures { λ r. ⌜ r ≡ sets (replicate mostOperations (Rattle.figures.specs.Start.unbegun 0 0)) 0 (recordsOf counts 0 (now (operations .entry))) ⌝ }
 {
     let r = unbegun(0, 0);
-    let mut records = [r; 64];
+    let mut records = [r; Machine::OPERATIONS];
     let mut i = 0;
-    while i < 64 && i < operations.len() {
+    while i < Machine::OPERATIONS && i < operations.len() {
         records[i] = unbegun(owner_of(counts, i), operations[i]);
         i += 1;
     }
@@ -374,18 +394,18 @@ fn local_of(first: usize, end: usize) -> Local
         point: Point::Idle,
         op: op,
         end: e,
-        seen: [none; 8],
+        seen: [none; THREADS],
     }
 }
 
-fn locals_of(counts: [u16; 8]) -> [Local; 8]
+fn locals_of(counts: [u16; THREADS]) -> [Local; THREADS]
     ensures { λ r. ⌜ r ≡ localsOf 0 counts ⌝ }
 {
     let l = local_of(0, 0);
-    let mut locals = [l; 8];
+    let mut locals = [l; THREADS];
     let mut first: usize = 0;
     let mut i = 0;
-    while i < 8 {
+    while i < THREADS {
         let end = first + wide(counts[i]);
         locals[i] = local_of(first, end);
         first = end;
@@ -407,20 +427,21 @@ fn calculator_start() -> Calculator
         deletions: Machine::INVALID,
     };
     let s = Snapshot {
-        cells: [invalid; 8],
+        cells: [invalid; THREADS],
         collecting: false,
         size: Machine::INVALID,
     };
     let t = Trace {
         announced: 0,
         closed: 0,
-        seen: [none; 8],
+        fixed: 0,
+        seen: [none; THREADS],
     };
     Calculator {
-        counters: [none; 8],
+        counters: [none; THREADS],
         current: SnapshotId(0),
-        snapshots: [s; 65],
-        traces: [t; 65],
+        snapshots: [s; SNAPSHOTS],
+        traces: [t; SNAPSHOTS],
     }
 }
 
@@ -437,14 +458,14 @@ impl Machine {
     pub const INVALID: u32 = 4294967295;
 
     // The state before the first step, of a run of so many threads and keys: one count per thread, and the operation bytes.
-    pub fn start(threads: u8, keys: u8, counts: [u16; 8], operations: &[u8]) -> Machine
+    pub fn start(threads: u8, keys: u8, counts: [u16; THREADS], operations: &[u8]) -> Machine
         ensures { λ r. ⌜ r ≡ startOf threads keys counts (now (operations .entry)) ⌝ }
     {
         let calculator = calculator_start();
         let slot = Slot {
             content: Content::Empty,
         };
-        let slots = [slot; 16];
+        let slots = [slot; KEYS];
         let locals = locals_of(counts);
         let records = records_of(counts, operations);
         Machine {

@@ -1,13 +1,15 @@
--- What a machine owes of its history, for the log to play right: counts of the updates that stand before each operation.
+-- What a machine owes of its operations' courses to meet the demand: places of their own, within their spans, and for each the counts of
+-- the updates that stand before it.
 use mathlib.Core.Path.{_≡_}
 use mathlib.Core.Bool.{Bool, true, false, _&&_}
 use Prim.Native.Nat.{ℕ, suc, _+_, _≤_, _<_}
 use lib.Dec.{eqb, ltb}
 use borrow.Author.Tests.{lt-ltb, le-ltb, ltb-true}
 use Rattle.history.specs.PlainSet.{Ask, insert, delete, contains, size}
-use Rattle.history.specs.Play.{Op}
 use Rattle.history.specs.Tally.{tally}
-use Rattle.history.proofs.Split.{split, and-true, and-no, and-yes, and-swap, iff}
+use Rattle.history.specs.Courses.{Course, returned, listed, orderOf}
+use Rattle.history.specs.Demand.{isUpdate, InSpan}
+use Rattle.history.proofs.Split.{split, and-true, and-no, and-yes, and-swap, or-second, iff}
 use Rattle.history.proofs.Order.{Placed}
 
 abbrev pub insertOf : ℕ → Ask → Bool
@@ -34,10 +36,10 @@ anyDelete (delete j) = true
 anyDelete (contains j) = false
 anyDelete size = false
 
-module _ (n : ℕ) (ops : ℕ → Op) (listed succeeds : ℕ → Bool) (place : ℕ → ℕ) where
-  -- o is a listed update of the kind asked, changes the set and stands before place p; how many do
+module _ (n : ℕ) (course : ℕ → Course) where
+  -- o is a change of the kind asked and stands before place p; how many do
   unfoldable pub earlier : (Ask → Bool) → ℕ → ℕ → Bool
-  earlier kind p o = listed o && succeeds o && kind ((ops o) .ask) && ltb (place o) p
+  earlier kind p o = course o .changed && kind (course o .ask) && ltb (orderOf (course o)) p
 
   abbrev pub before : (Ask → Bool) → ℕ → ℕ
   before kind p = tally (earlier kind p) n
@@ -51,39 +53,57 @@ module _ (n : ℕ) (ops : ℕ → Op) (listed succeeds : ℕ → Bool) (place : 
 
   -- what is owed of the listed operation o, by what it asked and how it went
   pub data Account (o : ℕ) : Type 0 where
-    inserts : {k : ℕ} → (ops o) .ask ≡ insert k → succeeds o ≡ true → ((ops o) .returned ≡ true → (ops o) .answer ≡ 1) → Absent k (place o) → Account o
-    deletes : {k : ℕ} → (ops o) .ask ≡ delete k → succeeds o ≡ true → ((ops o) .returned ≡ true → (ops o) .answer ≡ 1) → Present k (place o) → Account o
-    insert-fails : {k : ℕ} → (ops o) .ask ≡ insert k → succeeds o ≡ false → (ops o) .returned ≡ true → (ops o) .answer ≡ 0 → Present k (place o) → Account o
-    delete-fails : {k : ℕ} → (ops o) .ask ≡ delete k → succeeds o ≡ false → (ops o) .returned ≡ true → (ops o) .answer ≡ 0 → Absent k (place o) → Account o
-    finds : {k : ℕ} → (ops o) .ask ≡ contains k → (ops o) .returned ≡ true → (ops o) .answer ≡ 1 → Present k (place o) → Account o
-    misses : {k : ℕ} → (ops o) .ask ≡ contains k → (ops o) .returned ≡ true → (ops o) .answer ≡ 0 → Absent k (place o) → Account o
-    sizes : (ops o) .ask ≡ size → (ops o) .returned ≡ true → (ops o) .answer + before anyDelete (place o) ≡ before anyInsert (place o) → Account o
+    inserts : {k : ℕ} → course o .ask ≡ insert k → course o .changed ≡ true → (returned (course o) ≡ true → course o .answer ≡ 1)
+        → Absent k (orderOf (course o)) → Account o
+    deletes : {k : ℕ} → course o .ask ≡ delete k → course o .changed ≡ true → (returned (course o) ≡ true → course o .answer ≡ 1)
+        → Present k (orderOf (course o)) → Account o
+    insert-fails : {k : ℕ} → course o .ask ≡ insert k → course o .changed ≡ false → returned (course o) ≡ true → course o .answer ≡ 0
+        → Present k (orderOf (course o)) → Account o
+    delete-fails : {k : ℕ} → course o .ask ≡ delete k → course o .changed ≡ false → returned (course o) ≡ true → course o .answer ≡ 0
+        → Absent k (orderOf (course o)) → Account o
+    finds : {k : ℕ} → course o .ask ≡ contains k → returned (course o) ≡ true → course o .answer ≡ 1
+        → Present k (orderOf (course o)) → Account o
+    misses : {k : ℕ} → course o .ask ≡ contains k → returned (course o) ≡ true → course o .answer ≡ 0
+        → Absent k (orderOf (course o)) → Account o
+    sizes : course o .ask ≡ size → returned (course o) ≡ true
+        → course o .answer + before anyDelete (orderOf (course o)) ≡ before anyInsert (orderOf (course o)) → Account o
 
   pub record Facts : Type 0 where
-    pub placed : Placed n listed place
-    pub account : (o : ℕ) → o < n → listed o ≡ true → Account o
+    pub changes : (o : ℕ) → o < n → course o .changed ≡ true → isUpdate (course o .ask) ≡ true
+    pub placed : Placed n (λ o. listed (course o)) (λ o. orderOf (course o))
+    pub ranked : (o : ℕ) → o < n → listed (course o) ≡ true → course o .place .rank ≤ 1
+    pub spans : (o : ℕ) → o < n → listed (course o) ≡ true → InSpan (course o)
+    pub account : (o : ℕ) → o < n → listed (course o) ≡ true → Account o
 
   -- laws of `earlier`: what it says, where it is equal, false, and what it comes to
-  pub earlier-true : (kind : Ask → Bool) (x o : ℕ) → earlier kind x o ≡ true → (listed o ≡ true) × (succeeds o ≡ true) × (kind ((ops o) .ask) ≡ true) × (place o < x)
+  pub earlier-true : (kind : Ask → Bool) (x o : ℕ) → earlier kind x o ≡ true
+      → (course o .changed ≡ true) × (kind (course o .ask) ≡ true) × (orderOf (course o) < x)
   unfolding earlier
   earlier-true kind x o e =
-      let a = and-true (listed o && succeeds o && kind ((ops o) .ask)) _ e in
-      let b = and-true (listed o && succeeds o) _ (a .0) in
-      let c = and-true (listed o) _ (b .0) in
-      (c .0, c .1, b .1, ltb-true (place o) x (a .1))
+      let a = and-true (course o .changed && kind (course o .ask)) _ e in
+      let b = and-true (course o .changed) _ (a .0) in
+      (b .0, b .1, ltb-true (orderOf (course o)) x (a .1))
 
-  pub earlier-same : (kind : Ask → Bool) (x y q : ℕ) → (listed q ≡ true → place q < x → place q < y) → (listed q ≡ true → place q < y → place q < x)
-      → earlier kind x q ≡ earlier kind y q
+  pub earlier-same : (kind : Ask → Bool) (x y q : ℕ) → (listed (course q) ≡ true → orderOf (course q) < x → orderOf (course q) < y)
+      → (listed (course q) ≡ true → orderOf (course q) < y → orderOf (course q) < x) → earlier kind x q ≡ earlier kind y q
   unfolding earlier
   earlier-same kind x y q f g =
-      split (listed q)
-      (λ t. rw (iff (ltb (place q) x) (ltb (place q) y) (λ b. lt-ltb (place q) y (f t (ltb-true (place q) x b))) (λ b. lt-ltb (place q) x (g t (ltb-true (place q) y b)))))
+      split (course q .changed)
+      (λ t. let i = or-second (returned (course q)) t in
+      rw (iff (ltb (orderOf (course q)) x) (ltb (orderOf (course q)) y)
+      (λ b. lt-ltb (orderOf (course q)) y (f i (ltb-true (orderOf (course q)) x b)))
+      (λ b. lt-ltb (orderOf (course q)) x (g i (ltb-true (orderOf (course q)) y b)))))
       (λ t. rw t)
 
-  pub earlier-not : (kind : Ask → Bool) (x q : ℕ) → x ≤ place q → earlier kind x q ≡ false
+  pub earlier-not : (kind : Ask → Bool) (x q : ℕ) → x ≤ orderOf (course q) → earlier kind x q ≡ false
   unfolding earlier
-  earlier-not kind x q h = rw (le-ltb (place q) x h) (and-no (listed q && succeeds q && kind ((ops q) .ask)))
+  earlier-not kind x q h = rw (le-ltb (orderOf (course q)) x h) (and-no (course q .changed && kind (course q .ask)))
 
-  pub earlier-is : (kind : Ask → Bool) (x q : ℕ) → listed q ≡ true → place q < x → earlier kind x q ≡ (kind ((ops q) .ask) && succeeds q)
+  pub earlier-is : (kind : Ask → Bool) (x q : ℕ) → orderOf (course q) < x → earlier kind x q ≡ (kind (course q .ask) && course q .changed)
   unfolding earlier
-  earlier-is kind x q e h = rw (e, lt-ltb (place q) x h, and-yes (succeeds q && kind ((ops q) .ask)), and-swap (succeeds q) (kind ((ops q) .ask)))
+  earlier-is kind x q h =
+      rw (
+        lt-ltb (orderOf (course q)) x h,
+        and-yes (course q .changed && kind (course q .ask)),
+        and-swap (course q .changed) (kind (course q .ask)),
+      )

@@ -2,6 +2,10 @@ pub mod Split
 pub mod Tally
 pub mod Order
 pub mod PlainSet
+pub mod Places
 pub mod Facts
 pub mod Replay
+pub mod Keyed
+pub mod Turns
+pub mod OwnSteps
 pub mod Worked

@@ -2,9 +2,9 @@
 use mathlib.Core.Path.{_≡_, refl}
 use mathlib.Core.Logic.{_≢_}
 use mathlib.Core.Bool.{Bool, true, false, cond, _&&_, _||_}
-use Prim.Native.Nat.{ℕ}
+use Prim.Native.Nat.{ℕ, _≤_, _<_}
 use native.Mathlib.Omega.{arith}
-use native.Mathlib.Decide.{ℕ-discrete}
+use native.Mathlib.Decide.{ℕ-discrete, decLt}
 
 pub clash {ℓ} : {X : Type ℓ} (b : Bool) → b ≡ true → b ≡ false → X
 clash b p q = let z : _≡_ {A = ℕ} 0 1 = cc in absurd (omega arith)
@@ -26,6 +26,14 @@ same? {X} a b f g = go (ℕ-discrete a b)
     go : Dec (a ≡ b) → X
     go (yes e) = f e
     go (no e) = g e
+
+-- a number is below another or not
+pub below? : {X : Type 0} (a b : ℕ) → (a < b → X) → (b ≤ a → X) → X
+below? {X} a b f g = go (decLt a b)
+  where
+    go : Dec (a < b) → X
+    go (yes l) = f l
+    go (no l) = g (omega arith)
 
 pub both : (a b : Bool) → a ≡ true → b ≡ true → (a && b) ≡ true
 both a b p q = rw (p, q)
@@ -57,6 +65,10 @@ or-false false b e = (refl, e)
 pub or-true : (a b : Bool) → a ≡ false → (a || b) ≡ true → b ≡ true
 or-true true b p e = clash true refl p
 or-true false b p e = e
+
+pub or-second : (a : Bool) {b : Bool} → b ≡ true → (a || b) ≡ true
+or-second true e = refl
+or-second false e = e
 
 -- two tests are equal if each gives the other
 pub iff : (a b : Bool) → (a ≡ true → b ≡ true) → (b ≡ true → a ≡ true) → a ≡ b

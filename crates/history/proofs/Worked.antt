@@ -1,4 +1,4 @@
--- Small logs worked out: an order, a play that is right, and plays that are shut out.
+-- Small logs worked out: an order, a play that is right, and plays and courses that are shut out.
 use mathlib.Core.Path.{_≡_, refl}
 use mathlib.Core.Bool.{true, false}
 use mathlib.Core.List.{List, [], _∷_}
@@ -7,6 +7,10 @@ use native.Mathlib.Omega.{arith}
 use lib.ListN.{getD}
 use Rattle.history.specs.PlainSet.{Ask, insert, delete, contains, size, member, without}
 use Rattle.history.specs.Play.{Op, Legal}
+use Rattle.history.specs.Places.{place}
+use Rattle.history.specs.Courses.{Course}
+use Rattle.history.specs.Demand.{Demand}
+use Rattle.history.proofs.Split.{clash}
 use Rattle.history.specs.Order.{log, logFrom, leastAmong, nearer, above, closer}
 
 op : List Op → ℕ → Op
@@ -36,3 +40,19 @@ unfinished l = let e = l .1 .0 in omega arith
 short : Legal (op (did (insert 7) 1 ∷ did size 0 ∷ [])) [] (0 ∷ 1 ∷ []) → ⊥
 unfolding op did Legal member
 short l = let e = l .1 .0 in omega arith
+
+-- an insert of steps 2 to 4 that stands at step s
+stood : ℕ → Course
+stood s = record { ask = insert 7; first = 2; last = 4; answer = 1; changed = true; place = place s 1 s 0 }
+
+early : Demand 1 (λ o. stood 1) → ⊥
+unfolding stood
+early d = let e = d .spans 0 (omega arith) refl .begun in omega arith
+
+late : Demand 1 (λ o. stood 5) → ⊥
+unfolding stood
+late d = let e = d .spans 0 (omega arith) refl .ended refl in omega arith
+
+-- a contains that is said to have changed the set
+changing : Demand 1 (λ o. record { ask = contains 7; first = 2; last = 0; answer = 0; changed = true; place = place 3 1 3 0 }) → ⊥
+changing d = clash false (d .changes 0 (omega arith) refl) refl

@@ -2,4 +2,7 @@ pub mod PlainSet
 pub mod Play
 pub mod Tally
 pub mod Order
-pub mod Span
+pub mod Places
+pub mod Courses
+pub mod Demand
+pub mod Steps

@@ -1,3 +1,5 @@
 pub mod Answered
-pub mod Gathers
+pub mod LentOn
+pub mod Once
+pub mod Pairs
 pub mod Unique

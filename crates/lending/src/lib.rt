@@ -1,12 +1,14 @@
-// Lent memory: the block of counters by `&mut`, and a slice of snapshot records. Each function here loads one part, calls a function
-// by value of the crate `calculator`, and stores what it gives. The proofs of `raise`, `raised_block`, `read`, `exchange` and
-// `gather` are walks of their code, statement by statement.
+// Lent memory: the block of counters, and a slice of snapshot records. Each function here makes one access: it loads one part, calls
+// a function by value of the crate `calculator`, and stores what it gives. The proofs of `count`, `raise`, `read`, `exchange` and
+// `perform` are walks of their code, statement by statement.
 use calculator::exchange::Exchange;
 use calculator::exchange::exchanged;
 use calculator::exchange::raised_pair;
 use calculator::exchange::witnessed;
 use calculator::figure4::block_of;
+use calculator::figure4::count_at;
 use calculator::figure4::count_of;
+use calculator::request::Request;
 use figures::Cell;
 use figures::Counts;
 use figures::Machine;
@@ -14,35 +16,35 @@ use figures::Snapshot;
 use terms::SnapshotId;
 use terms::Target;
 ghost use mathlib.Core.Path.{_≡_};
-ghost use mathlib.Core.Bool.{false};
-ghost use Prim.Native.Nat.{min};
-ghost use lib.ListN.{replicate, set};
-ghost use Rattle.figures.specs.Figure4.{countAt, freshSnapshot};
+ghost use mathlib.Core.Bool.{cond};
+ghost use Rattle.figures.specs.Figure4.{countAt};
 ghost use Rattle.calculator.specs.Exchanges.{absent, raisedIn, witnessedOf};
-ghost use Rattle.lending.specs.Lent.{lentAt, exchangedIn, gatheredOf};
+ghost use Rattle.calculator.specs.Requests.{recordIn, exchangedIn, heard, countersBy, tableBy};
+
+// The counter of a cell. A thread that is not there has none: 0 is read.
+pub fn count(block: &[Counts; figures::THREADS], cell: Cell) -> u32
+    ensures { λ r. ⌜ r ≡ countAt (now (block .entry)) cell ⌝ }
+{
+    if cell.thread.0 < Machine::THREADS {
+        let i = cell.thread.0 as usize;
+        return count_of(cell.kind, block[i]);
+    }
+    0
+}
 
 // Figure 5, line 79: exchanges c-1 for c in the counter of j, and returns the value witnessed. A thread that is not there has no
 // counter: 0 is witnessed.
-pub fn raise(block: &mut [Counts; 8], j: Cell, c: Target) -> u32
+pub fn raise(block: &mut [Counts; figures::THREADS], j: Cell, c: Target) -> u32
     ensures { λ r. ⌜ (r ≡ countAt (now (block .entry)) j) × (now (block .exit) ≡ raisedIn (now (block .entry)) j c) ⌝ }
 {
-    let i = j.thread.0 as usize;
-    if i < 8 {
+    if j.thread.0 < Machine::THREADS {
+        let i = j.thread.0 as usize;
         let p = block[i];
         block[i] = raised_pair(j.kind, c, p);
         count_of(j.kind, p)
     } else {
         0
     }
-}
-
-// The block by value, lent to `raise`, for every caller that lends nothing.
-pub fn raised_block(block: [Counts; 8], j: Cell, c: Target) -> [Counts; 8]
-    ensures { λ r. ⌜ r ≡ raisedIn block j c ⌝ }
-{
-    let mut b = block;
-    raise(&mut b, j, c);
-    b
 }
 
 // What stands beyond the end of a lent table.
@@ -59,7 +61,7 @@ pub fn no_snapshot() -> Snapshot
 
 // Record n of a lent table.
 pub fn read(table: &[Snapshot], n: SnapshotId) -> Snapshot
-    ensures { λ r. ⌜ r ≡ lentAt (now (table .entry)) n ⌝ }
+    ensures { λ r. ⌜ r ≡ recordIn (now (table .entry)) n ⌝ }
 {
     let k = n.0 as usize;
     if k < table.len() {
@@ -77,7 +79,7 @@ fn beyond(x: Exchange) -> u32
 
 // Makes an exchange in record n of a lent table, and returns the value witnessed.
 pub fn exchange(table: &mut [Snapshot], n: SnapshotId, x: Exchange) -> u32
-    ensures { λ r. ⌜ (r ≡ witnessedOf x (lentAt (now (table .entry)) n)) × (now (table .exit) ≡ exchangedIn (now (table .entry)) n x) ⌝ }
+    ensures { λ r. ⌜ (r ≡ witnessedOf x (recordIn (now (table .entry)) n)) × (now (table .exit) ≡ exchangedIn (now (table .entry)) n x) ⌝ }
 {
     let k = n.0 as usize;
     if k < table.len() {
@@ -89,56 +91,30 @@ pub fn exchange(table: &mut [Snapshot], n: SnapshotId, x: Exchange) -> u32
     }
 }
 
-// A machine's own table before its first announcement.
-fn unannounced() -> [Snapshot; 65]
-    ensures { λ r. ⌜ r ≡ replicate 65 (freshSnapshot false) ⌝ }
+// What is heard where a record's flag is read, and where one of its cells is.
+fn flag_in(s: Snapshot) -> u32
+    ensures { λ r. ⌜ r ≡ cond (s .collecting) 1 0 ⌝ }
 {
-    let cells = block_of(Machine::INVALID);
-    let s = Snapshot {
-        cells: cells,
-        collecting: false,
-        size: Machine::INVALID,
-    };
-    [s; 65]
+    if s.collecting { 1 } else { 0 }
 }
 
-// A machine's own table with another record n. Beyond its end nothing changes.
-fn with_snapshot(ss: [Snapshot; 65], n: SnapshotId, s: Snapshot) -> [Snapshot; 65]
-    ensures { λ r. ⌜ r ≡ set ss (n .0) s ⌝ }
+fn value_in(s: Snapshot, j: Cell) -> u32
+    ensures { λ r. ⌜ r ≡ countAt (s .cells) j ⌝ }
 {
-    let i = n.0 as usize;
-    let mut all = ss;
-    if i < 65 {
-        all[i] = s;
-    }
-    all
+    let cells = s.cells;
+    count_at(cells, j)
 }
 
-// The least of n, the length of a lent table, and that of a machine's own.
-fn least(n: usize, m: usize) -> u8
-    ensures { λ r. ⌜ r ≡ min (min n m) 65 ⌝ }
+// Makes the one access that is asked for, and returns what is heard.
+pub fn perform(table: &mut [Snapshot], block: &mut [Counts; figures::THREADS], q: Request) -> u32
+    ensures { λ r. ⌜ (r ≡ heard q (now (block .entry)) (now (table .entry))) × (now (block .exit) ≡ countersBy q (now (block .entry))) × (now (table .exit) ≡ tableBy q (now (table .entry))) ⌝ }
 {
-    if n < m {
-        if n < 65 {
-            return n as u8;
-        }
-    } else if m < 65 {
-        return m as u8;
+    match q {
+        Request::Nothing => 0,
+        Request::Count(j) => count(block, j),
+        Request::Raise(j, c) => raise(block, j, c),
+        Request::Flag(n) => flag_in(read(table, n)),
+        Request::Value(n, j) => value_in(read(table, n), j),
+        Request::Exchanges(n, x) => exchange(table, n, x),
     }
-    65
-}
-
-// The first n records of a lent table, in a table as a machine has it.
-pub fn gather(table: &[Snapshot], n: usize) -> [Snapshot; 65]
-    ensures { λ r. ⌜ r ≡ gatheredOf n (now (table .entry)) ⌝ }
-{
-    let end = least(n, table.len());
-    let mut ss = unannounced();
-    let mut i: u8 = 0;
-    while i < end {
-        let k = SnapshotId(i);
-        ss = with_snapshot(ss, k, read(table, k));
-        i = i + 1;
-    }
-    ss
 }

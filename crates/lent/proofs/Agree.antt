@@ -106,13 +106,3 @@ module _ (threads keys : ℕ) (counts ops : List ℕ) (ys : List Snapshot) (room
     -- after a run the lent table has the announced records, and the others as lent
     pub lent-run : runOf (withTable (set ys 0 (freshSnapshot false)) start) schedule ≡ withTable (sets ys 0 (announcedIn end)) end
     lent-run = lent-all .same ∙ ap (λ (z : List Snapshot). withTable z end) left
-
-    -- and these are all that the machine's own table has to hold
-    pub gathered : end .calculator .snapshots
-        ≡ sets (replicate (suc mostOperations) (freshSnapshot false)) 0 (take (suc (end .calculator .current .0)) (sets ys 0 (announcedIn end)))
-    gathered =
-        let n = suc (end .calculator .current .0) in
-        subst (λ (z : List Snapshot). end .calculator .snapshots ≡ sets freshTable 0 (take n z)) left
-        (front-is noSnapshot n (lent-all .table) freshTable (end .calculator .snapshots)
-        (omega (arith, in-lent schedule w, lent-all .shown .long)) (omega (arith, in-own schedule w, length-replicate 65 (freshSnapshot false)))
-        (record { long = lent-all .own .long; front = λ i l. sym (lent-all .shown .front i l); rest = lent-all .own .rest }))

@@ -82,7 +82,7 @@ module _ (b : Bounds) (t : ThreadId) (o : OpId) (k : Call) (n : ℕ) (seen : Lis
   update-fits (ReadAgain i) g h = cond-both (λ (x : UpdateMove). UpdateFits (b .current) (x .deed)) (eqb (s .count) (g .0)) _ _ tt tt
   update-fits (ReadCell i) g h = forward-fits i g (s .cell)
   update-fits (Forward i known) g h =
-      cond-both (λ (x : UpdateMove). UpdateFits (b .current) (x .deed)) (eqb (s .cell) known) _ _ h (forward-fits i g (s .cell))
+      cond-both (λ (x : UpdateMove). UpdateFits (b .current) (x .deed)) (eqb (s .cell) known) _ _ (h .0) (forward-fits i g (s .cell))
 
   size-fits : (p : SizePoint) → k ≡ Size → SizePointIn b p → Ranked n p own → SizeFits (b .current) k own (sizeAt p n seen s .deed)
   size-fits FindCurrent e h r = tt
@@ -141,7 +141,7 @@ update-looks b ReadCurrent h = omega arith
 update-looks b (ReadFlag n) h = h
 update-looks b (ReadAgain n) h = h
 update-looks b (ReadCell n) h = h
-update-looks b (Forward n known) h = h
+update-looks b (Forward n known) h = h .0
 
 size-looks : (b : Bounds) (p : SizePoint) → SizePointIn b p → sizeLooksAt p .0 ≤ b .current
 size-looks b FindCurrent h = omega arith

@@ -5,8 +5,6 @@ pub mod Tables
 pub mod Fronts
 pub mod Agree
 pub mod Announced
-pub mod LentOn
-pub mod Stepping
 pub mod Openings
 pub mod LentRun
 pub mod Unique

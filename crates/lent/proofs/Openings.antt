@@ -14,10 +14,11 @@ use borrow.Author.Tests.{lt-ltb, le-ltb}
 use Rattle.figures.specs.declared.Call.the-variants.{Insert, Delete, Contains}
 use Rattle.figures.specs.declared.Machine.{Machine}
 use Rattle.figures.specs.Start.{callOf, startOf}
-use Rattle.runfile.specs.Rows.{Passes, Stops}
+use Rattle.runfile.specs.declared.Refusal.{Refusal}
+use Rattle.runfile.specs.Refusals.{numberOf}
 use Rattle.runfile.specs.declared.Reading.{Reading}
-use Rattle.runfile.specs.Read.{rows, refused, accepted, readOf}
-use Rattle.runfile.proofs.Rows.{outcome, passed, stopped}
+use Rattle.runfile.specs.Read.{refused, accepted, readOf}
+use Rattle.runfile.proofs.Table.{readings}
 use Rattle.runfile.proofs.Accepts.{reads-accepted, accepts}
 use Rattle.machine.specs.declared.Rest.{Rest}
 use Rattle.machine.specs.Parts.{restOf}
@@ -53,14 +54,6 @@ module _ (l : List ℕ) {i : ℕ} where
 
 -- ---- Every reading.
 
-readings : (f : List ℕ) → (readOf f ≡ accepted f) ⊎ ((n : ℕ) × (p : ℕ) × (readOf f ≡ refused n p))
-unfolding readOf
-readings f = go (outcome (rows f))
-  where
-    go : Passes (rows f) ⊎ ((n : ℕ) × (p : ℕ) × Stops (rows f) n p) → (readOf f ≡ accepted f) ⊎ ((n : ℕ) × (p : ℕ) × (readOf f ≡ refused n p))
-    go (inl ps) = inl (passed refused (accepted f) (rows f) ps)
-    go (inr s) = inr (s .0, s .1, stopped refused (accepted f) (s .2))
-
 pub record Lies (f : List ℕ) (r : Reading) : Type 0 where
   pub next : r .«operations_at» + r .operations ≡ r .«schedule_at»
   pub ends : r .«schedule_at» ≤ length f
@@ -69,7 +62,7 @@ pub record Lies (f : List ℕ) (r : Reading) : Type 0 where
 lies : (f : List ℕ) → Lies f (readOf f)
 lies f = go (readings f)
   where
-    go : (readOf f ≡ accepted f) ⊎ ((n : ℕ) × (p : ℕ) × (readOf f ≡ refused n p)) → Lies f (readOf f)
+    go : (readOf f ≡ accepted f) ⊎ ((r : Refusal) × (p : ℕ) × (readOf f ≡ refused (numberOf r) p)) → Lies f (readOf f)
     go (inl e) = let a = accepts f (ap (λ (r : Reading). r .number) e) in record { next = a .schedule-next; ends = omega (arith, a .file-ends); few = a .operations-few }
     go (inr s) = subst (Lies f) (sym (s .2)) (record { next = refl; ends = omega arith; few = omega arith })
 
@@ -94,10 +87,10 @@ module _ (f : List ℕ) (results log table : ℕ) {r : Reading} (is : r ≡ read
       → number ≡ cond (eqb (r .number) 0) (cond (lacking || ltb table (sizes + 1)) 11 0) (r .number) → number ≡ lentNumber f results log table
   number-is l s n = n ∙ rw (l, s, is, operations-part f, le-ltb 64 (countOf f) (lies f .few))
 
-  pub opened-is : {lacking : Bool} {sizes number from : ℕ} {m : Machine} {rest : Rest} → lacking ≡ lacks (r .operations) results log
+  pub opened-is : {lacking : Bool} {sizes number : ℕ} {m : Machine} {rest : Rest} → lacking ≡ lacks (r .operations) results log
       → sizes ≡ sizesOf (take (r .«schedule_at» - r .«operations_at») (drop (r .«operations_at») f))
       → number ≡ cond (eqb (r .number) 0) (cond (lacking || ltb table (sizes + 1)) 11 0) (r .number)
       → m ≡ startOf (r .threads) (r .keys) (r .counts) (take (r .«schedule_at» - r .«operations_at») (drop (r .«operations_at») f))
-      → rest ≡ restOf m → from ≡ cond (eqb number 0) (r .«schedule_at») (length f)
-      → record { number = number; place = r .place; operations = r .operations; from = from; rest = rest } ≡ openedOf f results log table
-  opened-is l s n m x k = rw (k, number-is l s n, x, m, is, operations-part f)
+      → rest ≡ restOf m
+      → record { number = number; place = r .place; operations = r .operations; from = r .«schedule_at»; rest = rest } ≡ openedOf f results log table
+  opened-is l s n m x = rw (number-is l s n, x, m, is, operations-part f)

@@ -57,7 +57,7 @@ module _ (m : Machine) (lent : List Snapshot)
 
   along-updates : (d : UpdateDeed) (u : Update) (k : Call) (own : ℕ) → DeedFits current k own (Updates d u) → Along m lent (updates d u x) (updates d u y)
   along-updates Reads u k own h = record { table = lent; same = refl; change = kept refl refl refl }
-  along-updates Raises u k own h = record { table = lent; same = rw (agree current (omega arith)); change = kept refl refl refl }
+  along-updates Raises u k own h = record { table = lent; same = refl; change = kept refl refl refl }
   along-updates (Forwards n) u k own h =
       record { table = _; same = refl; change = stored (n .0) _ h refl refl (rw (agree (n .0) h)) }
 

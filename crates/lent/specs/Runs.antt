@@ -2,13 +2,15 @@
 use Prim.Native.Nat.{ℕ, _+_}
 use mathlib.Core.Bool.{Bool, false, cond, _||_}
 use mathlib.Core.List.{List}
-use lib.ListN.{length}
+use lib.ListN.{set}
 use lib.Dec.{ltb, eqb}
-use Rattle.calculator.specs.declared.exchange.Exchange.{Exchange}
-use Rattle.calculator.specs.declared.exchange.Exchange.the-variants.{Nothing, Anew}
 use Rattle.figures.specs.declared.Snapshot.{Snapshot}
+use Rattle.figures.specs.declared.Machine.{Machine}
+use Rattle.figures.specs.Figure4.{blockOf, freshSnapshot}
 use Rattle.figures.specs.Start.{startOf}
-use Rattle.machine.specs.Parts.{restOf}
+use Rattle.figures.specs.Step.{runOf}
+use Rattle.machine.specs.declared.Rest.{Rest}
+use Rattle.machine.specs.Parts.{wholeOf, restOf}
 use Rattle.runfile.specs.Read.{readOf}
 use Rattle.play.specs.declared.Told.{Told}
 use Rattle.play.specs.Run.{operationsOf, machineOf, countOf, tooSmall, refused, ran}
@@ -33,8 +35,7 @@ lentTold f results log table =
 abbrev pub recordsOf : List ℕ → List Snapshot
 recordsOf f = announcedIn (machineOf f)
 
--- ---- Before the first step: the number, where the file's steps begin (at its end after a refusal, so that none is played), and the
--- machine without its table; and what is exchanged in record 0.
+-- ---- Before the first step: the number, where the file's steps begin, and the machine without its counters and its table.
 
 abbrev pub openedOf : List ℕ → ℕ → ℕ → ℕ → Opened
 openedOf f results log table =
@@ -42,9 +43,11 @@ openedOf f results log table =
       number = lentNumber f results log table;
       place = readOf f .place;
       operations = countOf f;
-      from = cond (eqb (lentNumber f results log table) 0) (readOf f .«schedule_at») (length f);
+      from = readOf f .«schedule_at»;
       rest = restOf (startOf (readOf f .threads) (readOf f .keys) (readOf f .counts) (operationsOf f));
     }
 
-abbrev pub firstOf : Opened → Exchange
-firstOf o = cond (eqb (o .number) 0) (Anew false) Nothing
+-- ---- The steps, over a table whose record 0 is announced and not collecting, all else INVALID, and over counters that are 0.
+
+abbrev pub ranOver : Rest → List Snapshot → List ℕ → Machine
+ranOver m table steps = runOf (wholeOf m (blockOf 0) (set table 0 (freshSnapshot false))) steps

@@ -12,7 +12,7 @@ use Rattle.machine.specs.Parts.{wholeOf, restOf}
 
 -- the machine whose snapshots are this list
 abbrev pub withTable : List Snapshot → Machine → Machine
-withTable table m = wholeOf (restOf m) table
+withTable table m = wholeOf (restOf m) (m .calculator .counters) table
 
 -- the announced records: record 0 to the current one
 abbrev pub announcedIn : Machine → List Snapshot

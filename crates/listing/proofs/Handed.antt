@@ -8,6 +8,7 @@ use lib.ListN.{length, length-map}
 use lib.Dec.{eqb}
 use Rattle.history.proofs.Split.{same?}
 use Rattle.history.proofs.Order.{log-fits}
+use Rattle.figures.specs.Limits.{mostOperations}
 use Rattle.figures.specs.Places.{listed, orderOf, orderedOf, logOf}
 use Rattle.runfile.specs.Read.{readOf}
 use Rattle.runfile.proofs.Accepts.{accepts}
@@ -21,15 +22,15 @@ module _ (f : List ℕ) (results log : ℕ) (t : Told) (is : t ≡ toldOf f resu
       same? (readOf f .number) 0 (λ e. e)
       (λ d. sym (ap (λ (u : Told). u .number) (is ∙ told-refused f results log d .0)) ∙ zero-told)
 
-  log-few : length (logOf (machineOf f) (countOf f)) ≤ 64
+  log-few : length (logOf (machineOf f) (countOf f)) ≤ mostOperations
   log-few =
       rw length-map
       (omega (arith, log-fits (countOf f) (listed (machineOf f)) (orderOf (machineOf f)) (countOf f) 0, accepts f read-accepts .operations-few))
 
-  few : (a b : Bool) → cond a (cond b (refused 11 0) (ran f)) (refused (readOf f .number) (readOf f .place)) .entries ≤ 64
+  few : (a b : Bool) → cond a (cond b (refused 11 0) (ran f)) (refused (readOf f .number) (readOf f .place)) .entries ≤ mostOperations
   few true true = omega arith
   few true false = log-few
   few false b = omega arith
 
-  pub entries-few : t .entries ≤ 64
+  pub entries-few : t .entries ≤ mostOperations
   entries-few = rw is (few (eqb (readOf f .number) 0) (tooSmall f results log))

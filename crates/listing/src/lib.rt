@@ -1,11 +1,22 @@
 // The listing of a run, as document 01 shows it. What it prints is decided in the crates `play` and `runfile`: here it is put
 // into words, and written to the descriptor `out`.
+use figures::Machine;
+use places::writing::PER_ENTRY;
+use play::PER_OPERATION;
 use play::Told;
 use runfile::Reading;
 ghost use mathlib.Core.Path.{_≡_};
 ghost use Prim.Native.Nat.{_+_, _<_, _≤_};
 ghost use lib.ListN.{length};
+ghost use Rattle.figures.specs.Limits.{mostOperations};
 ghost use Rattle.runfile.specs.Read.{readOf};
+
+// Room for every run.
+const RESULTS: usize = PER_OPERATION * Machine::OPERATIONS;
+
+const LOG: usize = PER_ENTRY * Machine::OPERATIONS;
+
+const THREADS: usize = Machine::THREADS as usize;
 
 fn print_words(out: i32, words: &[u8]) {
     io::write_all(out, words);
@@ -72,11 +83,11 @@ fn print_answer(out: i32, asked: u8, answer: u32, last: u32) {
     }
 }
 
-// One operation's line, with its four numbers.
-fn print_operation(out: i32, o: usize, thread: usize, asked: u8, results: &[u32; 256])
-    requires { ⌜ o < 64 ⌝ }
+// One operation's line, with its numbers.
+fn print_operation(out: i32, o: usize, thread: usize, asked: u8, results: &[u32; RESULTS])
+    requires { ⌜ o < mostOperations ⌝ }
 {
-    let at = 4 * o;
+    let at = PER_OPERATION * o;
     print_field(out, b"op ", o as u64);
     print_field(out, b" thread ", thread as u64);
     print_asked(out, asked);
@@ -95,9 +106,9 @@ fn print_thread(
     end: usize,
     file: &[u8],
     at: usize,
-    results: &[u32; 256],
+    results: &[u32; RESULTS],
 )
-    requires { ⌜ (end ≤ 64) × (at + end ≤ length (now file)) ⌝ }
+    requires { ⌜ (end ≤ mostOperations) × (at + end ≤ length (now file)) ⌝ }
 {
     let mut o = first;
     while o < end {
@@ -107,14 +118,14 @@ fn print_thread(
 }
 
 // Each thread's operations follow those of the thread before.
-fn print_operations(out: i32, file: &[u8], r: Reading, results: &[u32; 256])
+fn print_operations(out: i32, file: &[u8], r: Reading, results: &[u32; RESULTS])
     requires { ⌜ (r ≡ readOf (now file)) × (r .number ≡ 0) ⌝ }
 {
     let counts = r.counts;
     let at = r.operations_at;
     let mut first: usize = 0;
     let mut thread: usize = 0;
-    while thread < 8 {
+    while thread < THREADS {
         let end = first + wide_count(counts[thread]);
         print_thread(out, thread, first, end, file, at, results);
         first = end;
@@ -128,20 +139,20 @@ fn print_entry(out: i32, o: u32, step: u32) {
     print_words(out, b"\n");
 }
 
-fn print_log(out: i32, entries: usize, log: &[u32; 128])
-    requires { ⌜ entries ≤ 64 ⌝ }
+fn print_log(out: i32, entries: usize, log: &[u32; LOG])
+    requires { ⌜ entries ≤ mostOperations ⌝ }
 {
     let mut i: usize = 0;
     while i < entries {
-        print_entry(out, log[2 * i], log[2 * i + 1]);
+        print_entry(out, log[PER_ENTRY * i], log[PER_ENTRY * i + 1]);
         i += 1;
     }
 }
 
 // Runs the file and prints all that is handed back, or the refusal. There is room for every run: number 11 is never printed.
 pub fn print_run(out: i32, file: &[u8]) {
-    let mut results = [0u32; 256];
-    let mut log = [0u32; 128];
+    let mut results = [0u32; RESULTS];
+    let mut log = [0u32; LOG];
     let told = play::run(file, &mut results, &mut log);
     if told.number != 0 {
         print_refusal(out, told.number, told.place);

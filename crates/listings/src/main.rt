@@ -3,16 +3,17 @@
 use libc::STDOUT_FILENO;
 use runfile::Reading;
 ghost use mathlib.Core.Path.{_≡_};
-ghost use Prim.Native.Nat.{_<_};
+ghost use Prim.Native.Nat.{_+_, _<_};
 ghost use lib.ListN.{length};
 ghost use Rattle.runfile.specs.Read.{readOf};
+ghost use Rattle.runfile.specs.Contents.{longest};
 
 // One byte more than any accepted file has: a longer file is told from these (`kept-same` of the crate `runfile`).
 // Made here, so that no proof looks into so long a list.
-fn room() -> [u8; 4199]
-    ensures { λ r. ⌜ 4199 ≡ length r ⌝ }
+fn room() -> [u8; runfile::KEPT]
+    ensures { λ r. ⌜ longest + 1 ≡ length r ⌝ }
 {
-    [0; 4199]
+    [0; runfile::KEPT]
 }
 
 // Whether the writer makes the file of what was read of it.

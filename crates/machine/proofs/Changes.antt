@@ -1,10 +1,8 @@
--- The whole machine after an access, told twice: by what its deed does, and by what a turn asks of memory.
+-- The whole machine after an access, by what its deed does.
 use Prim.Native.Nat.{ℕ}
 use mathlib.Core.List.{List}
 use lib.ListN.{getD, set}
-use Rattle.terms.specs.declared.ThreadId.{ThreadId}
 use Rattle.terms.specs.declared.OpId.{OpId}
-use Rattle.terms.specs.declared.SnapshotId.{SnapshotId}
 use Rattle.figures.specs.declared.Counts.{Counts}
 use Rattle.figures.specs.declared.Calculator.{Calculator}
 use Rattle.figures.specs.declared.UpdateDeed.{UpdateDeed}
@@ -16,16 +14,11 @@ use Rattle.figures.specs.declared.Deed.{Deed}
 use Rattle.figures.specs.declared.Deed.the-variants.{Rests, Finds, Links, Marks, Unlinks, Updates, Sizes}
 use Rattle.figures.specs.declared.Next.{Next}
 use Rattle.figures.specs.declared.Record.{Record}
-use Rattle.figures.specs.declared.Snapshot.{Snapshot}
 use Rattle.figures.specs.declared.Machine.{Machine}
-use Rattle.figures.specs.Figure4.{more, noTrace, raised, written, announced, lowered, fixed, windowOf}
+use Rattle.figures.specs.Figure4.{raised, written, announced, lowered, fixed, windowOf}
 use Rattle.figures.specs.Figure3.{cellOf}
-use Rattle.figures.specs.Step.{noRecord, noSlot, noLocal, raisedAt}
-use Rattle.calculator.specs.Exchanges.{absent, raisedIn, exchangedOf, tracedOf, currentOf}
-use Rattle.machine.specs.declared.Turn.{Turn}
-use Rattle.machine.specs.declared.Effect.{Effect}
-use Rattle.machine.specs.declared.Rest.{Rest}
-use Rattle.machine.specs.Parts.{recordedBy, stoodBy, heldBy, raisedOp}
+use Rattle.figures.specs.Step.{noRecord, noSlot, noLocal}
+use Rattle.machine.specs.Parts.{recordedBy, stoodBy, heldBy, raisedBy}
 
 -- ---- Of the calculator, by the deed.
 
@@ -40,7 +33,7 @@ sizedBy Announces step seen c = announced step c
 sizedBy (Collects n j v) step seen c = written n j v c
 sizedBy (Lowers n) step seen c = lowered n step c
 sizedBy (Keeps j v) step seen c = c
-sizedBy (Fixes n v) step seen c = fixed n v seen c
+sizedBy (Fixes n v) step seen c = fixed n v step seen c
 sizedBy (Shares n) step seen c = c
 
 abbrev pub calculatedBy : Deed → ℕ → List Counts → Calculator → Calculator
@@ -51,11 +44,6 @@ calculatedBy (Marks n d) step seen c = c
 calculatedBy Unlinks step seen c = c
 calculatedBy (Updates d u) step seen c = updatedBy d u c
 calculatedBy (Sizes d) step seen c = sizedBy d step seen c
-
--- ---- Of another operation's record: an update that is raised, by whichever thread, has its step.
-
-abbrev pub raisedRecord : ℕ → SnapshotId → OpId → List Record → List Record
-raisedRecord step w o rs = set rs (o .0) (raisedAt step w (getD rs (o .0) noRecord))
 
 -- ---- Together, by the deed: the machine after an access that looked up slot `key`, with these deed and next.
 
@@ -70,28 +58,5 @@ actedBy d x step t o key m =
       calculator = calculatedBy d step (l .seen) (m .calculator);
       slots = set (m .slots) key (record { content = heldBy d (getD (m .slots) key noSlot .content) });
       locals = set (m .locals) t (stoodBy d x l);
-      records = raisedRecord step (windowOf (m .calculator)) (raisedOp d) (set (m .records) (o .0) (recordedBy step d x (getD (m .records) (o .0) noRecord)));
+      records = raisedBy d step (windowOf (m .calculator)) (set (m .records) (o .0) (recordedBy step d x (getD (m .records) (o .0) noRecord)));
     }
-
--- ---- Together, by what is asked.
-
--- both after a turn of thread t in operation o on key `key` that looked at this record while `window` was being collected
-abbrev pub nextOf : Turn → Effect → ThreadId → OpId → ℕ → Snapshot → SnapshotId → Rest → Rest
-nextOf u v t o key looked window m =
-    let step = more (m .clock) in
-    let n = v .changed .0 in
-    record {
-      threads = m .threads;
-      keys = m .keys;
-      clock = step;
-      idle = m .idle;
-      counters = raisedIn (m .counters) (v .raise .cell) (v .raise .target);
-      current = currentOf (v .exchange) (m .current);
-      traces = set (m .traces) n (tracedOf (v .exchange) looked step (getD (m .locals) (t .0) noLocal .seen) (getD (m .traces) n noTrace));
-      slots = set (m .slots) key (record { content = v .held });
-      locals = set (m .locals) (t .0) (u .local);
-      records = raisedRecord step window (v .raised) (set (m .records) (o .0) (u .own));
-    }
-
-abbrev pub tableOf : Effect → List Snapshot → List Snapshot
-tableOf v table = set table (v .changed .0) (exchangedOf (v .exchange) (getD table (v .changed .0) absent))

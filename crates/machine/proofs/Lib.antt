@@ -1,5 +1,6 @@
 pub mod Changes
 pub mod Together
+pub mod Zeros
 pub mod Turns
 pub mod Stored
 pub mod Schedules

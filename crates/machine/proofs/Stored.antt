@@ -11,31 +11,38 @@ use borrow.Author.Tests.{ltb-true, ltb-false}
 use Rattle.terms.specs.declared.ThreadId.{ThreadId}
 use Rattle.terms.specs.declared.OpId.{OpId}
 use Rattle.terms.specs.declared.SnapshotId.{SnapshotId}
+use Rattle.figures.specs.declared.Cell.{Cell}
 use Rattle.figures.specs.declared.Counts.{Counts}
 use Rattle.figures.specs.declared.Snapshot.{Snapshot}
 use Rattle.figures.specs.declared.Trace.{Trace}
-use Rattle.figures.specs.declared.Sight.{Sight}
+use Rattle.figures.specs.declared.UpdateDeed.{UpdateDeed}
+use Rattle.figures.specs.declared.UpdateDeed.the-variants.{Reads, Raises, Forwards}
 use Rattle.figures.specs.declared.Content.{Content}
 use Rattle.figures.specs.declared.Content.the-variants.{Empty}
+use Rattle.figures.specs.declared.Update.{Update}
+use Rattle.figures.specs.declared.Deed.{Deed}
+use Rattle.figures.specs.declared.Deed.the-variants.{Rests, Finds, Links, Marks, Unlinks, Updates, Sizes}
+use Rattle.figures.specs.declared.Move.{Move}
 use Rattle.figures.specs.declared.Slot.{Slot}
 use Rattle.figures.specs.declared.Local.{Local}
 use Rattle.figures.specs.declared.Record.{Record}
 use Rattle.figures.specs.declared.Machine.{Machine}
-use Rattle.figures.specs.Figure4.{more, noSnapshot, noTrace}
-use Rattle.figures.specs.Figure3.{looksAtSnapshot}
+use Rattle.figures.specs.Limits.{mostThreads, mostKeys, mostOperations}
+use Rattle.figures.specs.Figure4.{more, both, countOf, countAt, noSnapshot, noTrace}
 use Rattle.figures.specs.Step.{noLocal, noSlot, noRecord, raisedAt, standsAt, accessed, idled, stepOf}
-use Rattle.figures.proofs.Laws.{and-true}
-use Rattle.calculator.specs.declared.exchange.Exchange.{Exchange}
-use Rattle.calculator.specs.declared.exchange.Exchange.the-variants.{Nothing}
-use Rattle.calculator.specs.Exchanges.{absent, windowIn, raisedIn, exchangedOf, tracedOf, currentOf}
+use Rattle.figures.proofs.Laws.{and-true, tests-differ}
+use Rattle.calculator.specs.declared.request.Request.{Request}
+use Rattle.calculator.specs.declared.request.Request.the-variants.{Nothing, Count, Raise, Flag, Value, Exchanges}
+use Rattle.calculator.specs.Exchanges.{absent, windowIn, raisedPair, exchangedOf, witnessedOf, tracedOf}
+use Rattle.calculator.specs.Requests.{counterOf, recordOf, heardOf, heard, pairBy, recordBy, traceBy, countersBy, tableBy, currentBy, tracesBy}
 use Rattle.calculator.proofs.Beyond.{set-beyond, getD-beyond}
+use Rattle.accesses.specs.Requests.{requestAt}
 use Rattle.machine.specs.declared.Rest.{Rest}
 use Rattle.machine.specs.declared.Turn.{Turn}
-use Rattle.machine.specs.declared.Effect.{Effect}
-use Rattle.machine.specs.Parts.{seenFrom, turnOf, effectOf, quiet, wholeOf}
-use Rattle.machine.proofs.Changes.{nextOf, tableOf, raisedRecord}
+use Rattle.machine.specs.Parts.{turnOf, quiet, raisedOp, raisedBy, raisedRecord, heldBy, recordedBy, stoodBy, thereOf, wholeOf, localIn, ownIn, heldIn, isBusy, windowNow, asksOf, requestOf, moveIn, takenOf, idledOf, decidedOf}
 use Rattle.machine.proofs.Together.{same}
-use Rattle.machine.proofs.Turns.{either-store, whole-turn, quiet-turn}
+use Rattle.machine.proofs.Zeros.{zero-count, zero-cell, zero-witness}
+use Rattle.machine.proofs.Turns.{either-store, taken-steps, glanced, glanced-steps}
 
 -- ---- A list of length n, and the index i or 0.
 
@@ -68,58 +75,128 @@ module _ {A : Type 0} (n : ℕ) (l : List A) (long : length l ≡ n) (i : ℕ) w
       go false h = same d l 0 ∙ sym (set-beyond l i n long (beyond h) a)
 
   -- a change f there, or none
-  pub change-at : (f : A → A) (d : A) → set l (at n i) (cond (ltb i n) (f (getD l (at n i) d)) (getD l (at n i) d)) ≡ set l i (f (getD l i d))
+  pub change-at : (f : A → A) (d : A) →
+      set l (at n i) (cond (ltb i n) (f (getD l (at n i) d)) (getD l (at n i) d)) ≡ set l i (f (getD l i d))
   change-at f d = go (ltb i n) refl
     where
-      go : (b : Bool) → ltb i n ≡ b → set l (cond b i 0) (cond b (f (getD l (cond b i 0) d)) (getD l (cond b i 0) d)) ≡ set l i (f (getD l i d))
+      go : (b : Bool) → ltb i n ≡ b →
+          set l (cond b i 0) (cond b (f (getD l (cond b i 0) d)) (getD l (cond b i 0) d)) ≡ set l i (f (getD l i d))
       go true h = refl
       go false h = same d l 0 ∙ sym (set-beyond l i n long (beyond h) (f (getD l i d)))
 
-  -- a change by x there, or by what changes nothing
-  pub changed-at : {E : Type 0} (f : E → A → A) (x none : E) → ((a : A) → f none a ≡ a) → (d : A) →
-      set l (at n i) (f (cond (ltb i n) x none) (getD l (at n i) d)) ≡ set l i (f x (getD l i d))
-  changed-at f x none still d = go (ltb i n) refl
-    where
-      go : (b : Bool) → ltb i n ≡ b → set l (cond b i 0) (f (cond b x none) (getD l (cond b i 0) d)) ≡ set l i (f x (getD l i d))
-      go true h = refl
-      go false h = ap (set l 0) (still (getD l 0 d)) ∙ same d l 0 ∙ sym (set-beyond l i n long (beyond h) (f x (getD l i d)))
+-- ---- The counters, the table and the traces, by what a request names.
+
+either : {A : Type 0} (b : Bool) (a : A) → cond b a a ≡ a
+either true a = refl
+either false a = refl
+
+module _ (b : List Counts) (table : List Snapshot) (eight : length b ≡ mostThreads) (long : length table ≡ suc mostOperations) where
+  abbrev pairAt : Request → Counts
+  pairAt x = getD b (at mostThreads (counterOf x .0)) (both 0)
+
+  abbrev foundAt : Request → Snapshot
+  foundAt x = getD table (at (suc mostOperations) (recordOf x .0)) noSnapshot
+
+  counted : (j : Cell) →
+      cond (ltb (j .thread .0) mostThreads) (countOf (j .kind) (getD b (at mostThreads (j .thread .0)) (both 0))) 0 ≡ countAt b j
+  counted j =
+      ap (λ (z : ℕ). cond (ltb (j .thread .0) mostThreads) (countOf (j .kind) (getD b (at mostThreads (j .thread .0)) (both 0))) z)
+      (sym (zero-count (j .kind)))
+      ∙ read-at mostThreads b eight (j .thread .0) (countOf (j .kind)) (both 0) (both 0)
+
+  looked : (n : SnapshotId) (p : Snapshot → ℕ) → p absent ≡ 0 →
+      cond (ltb (n .0) (suc mostOperations)) (p (getD table (at (suc mostOperations) (n .0)) noSnapshot)) 0 ≡ p (getD table (n .0) absent)
+  looked n p e =
+      ap (λ (z : ℕ). cond (ltb (n .0) (suc mostOperations)) (p (getD table (at (suc mostOperations) (n .0)) noSnapshot)) z) (sym e)
+      ∙ read-at (suc mostOperations) table long (n .0) p absent noSnapshot
+
+  pub heard-at : (x : Request) → cond (thereOf x) (heardOf x (pairAt x) (foundAt x)) 0 ≡ heard x b table
+  heard-at Nothing = refl
+  heard-at (Count j) = counted j
+  heard-at (Raise j c) = counted j
+  heard-at (Flag n) = looked n (λ (s : Snapshot). cond (s .collecting) 1 0) refl
+  heard-at (Value n j) = looked n (λ (s : Snapshot). countAt (s .cells) j) (zero-cell j)
+  heard-at (Exchanges n x) = looked n (witnessedOf x) (zero-witness x)
+
+  pub counters-at : (x : Request) →
+      set b (at mostThreads (counterOf x .0)) (cond (thereOf x) (pairBy x (pairAt x)) (pairAt x)) ≡ countersBy x b
+  counters-at Nothing = same (both 0) b 0
+  counters-at (Count j) = change-at mostThreads b eight (j .thread .0) (λ (p : Counts). p) (both 0) ∙ same (both 0) b (j .thread .0)
+  counters-at (Raise j c) = change-at mostThreads b eight (j .thread .0) (raisedPair (j .kind) c) (both 0)
+  counters-at (Flag n) = ap (set b 0) (either (thereOf (Flag n)) (getD b 0 (both 0))) ∙ same (both 0) b 0
+  counters-at (Value n j) = ap (set b 0) (either (thereOf (Value n j)) (getD b 0 (both 0))) ∙ same (both 0) b 0
+  counters-at (Exchanges n x) = ap (set b 0) (either (thereOf (Exchanges n x)) (getD b 0 (both 0))) ∙ same (both 0) b 0
+
+  named : (n : SnapshotId) (f : Snapshot → Snapshot) →
+      set table (at (suc mostOperations) (n .0))
+      (cond (ltb (n .0) (suc mostOperations)) (f (getD table (at (suc mostOperations) (n .0)) noSnapshot))
+      (getD table (at (suc mostOperations) (n .0)) noSnapshot))
+      ≡ set table (n .0) (f (getD table (n .0) noSnapshot))
+  named n f = change-at (suc mostOperations) table long (n .0) f noSnapshot
+
+  pub table-at : (x : Request) →
+      set table (at (suc mostOperations) (recordOf x .0)) (cond (thereOf x) (recordBy x (foundAt x)) (foundAt x)) ≡ tableBy x table
+  table-at Nothing = same noSnapshot table 0
+  table-at (Count j) = ap (set table 0) (either (thereOf (Count j)) (getD table 0 noSnapshot)) ∙ same noSnapshot table 0
+  table-at (Raise j c) = ap (set table 0) (either (thereOf (Raise j c)) (getD table 0 noSnapshot)) ∙ same noSnapshot table 0
+  table-at (Flag n) = named n (λ (s : Snapshot). s) ∙ same noSnapshot table (n .0)
+  table-at (Value n j) = named n (λ (s : Snapshot). s) ∙ same noSnapshot table (n .0)
+  table-at (Exchanges n x) = named n (exchangedOf x) ∙ either-store (exchangedOf x) noSnapshot absent table (n .0)
+
+module _ (ts : List Trace) (long : length ts ≡ suc mostOperations) (w step : ℕ) (seen : List Counts) where
+  abbrev traceAt : Request → Trace
+  traceAt x = getD ts (at (suc mostOperations) (recordOf x .0)) noTrace
+
+  traces-at : (x : Request) →
+      set ts (at (suc mostOperations) (recordOf x .0)) (cond (thereOf x) (traceBy x w step seen (traceAt x)) (traceAt x))
+      ≡ tracesBy x w step seen ts
+  traces-at Nothing = refl
+  traces-at (Count j) = ap (set ts 0) (either (thereOf (Count j)) (getD ts 0 noTrace))
+  traces-at (Raise j c) = ap (set ts 0) (either (thereOf (Raise j c)) (getD ts 0 noTrace))
+  traces-at (Flag n) = change-at (suc mostOperations) ts long (n .0) (λ (r : Trace). r) noTrace
+  traces-at (Value n j) = change-at (suc mostOperations) ts long (n .0) (λ (r : Trace). r) noTrace
+  traces-at (Exchanges n x) = change-at (suc mostOperations) ts long (n .0) (tracedOf x w step seen) noTrace
+
+-- the record of the operation that is raised
+module _ (rs : List Record) (long : length rs ≡ mostOperations) (step : ℕ) (w : SnapshotId) where
+  abbrev Raised : Deed → Type 0
+  Raised d =
+      set rs (at mostOperations (raisedOp d .0))
+      (cond (ltb (raisedOp d .0) mostOperations) (raisedAt step w (getD rs (at mostOperations (raisedOp d .0)) noRecord))
+      (getD rs (at mostOperations (raisedOp d .0)) noRecord))
+      ≡ raisedBy d step w rs
+
+  update-raised : (d : UpdateDeed) (u : Update) → Raised (Updates d u)
+  update-raised Reads u = same noRecord rs 0
+  update-raised Raises u = change-at mostOperations rs long (u .node .op .0) (raisedAt step w) noRecord
+  update-raised (Forwards n) u = same noRecord rs 0
+
+  raised-at : (d : Deed) → Raised d
+  raised-at Rests = same noRecord rs 0
+  raised-at (Finds c) = same noRecord rs 0
+  raised-at (Links n) = same noRecord rs 0
+  raised-at (Marks n d) = same noRecord rs 0
+  raised-at Unlinks = same noRecord rs 0
+  raised-at (Updates d u) = update-raised d u
+  raised-at (Sizes d) = same noRecord rs 0
 
 -- ---- A machine whose arrays are as long as the code has them.
 
 pub record Long (m : Rest) : Type 0 where
-  pub counters : length (m .counters) ≡ 8
-  pub traces : length (m .traces) ≡ 65
-  pub slots : length (m .slots) ≡ 16
-  pub locals : length (m .locals) ≡ 8
-  pub records : length (m .records) ≡ 64
+  pub traces : length (m .traces) ≡ suc mostOperations
+  pub slots : length (m .slots) ≡ mostKeys
+  pub locals : length (m .locals) ≡ mostThreads
+  pub records : length (m .records) ≡ mostOperations
 
--- its own table: a record of it, and the table after an exchange
-module _ (table : List Snapshot) (long : length table ≡ 65) where
-  pub snapshot-read : {h : ℕ} (n : SnapshotId) {looked : Snapshot} → h ≡ at 65 (n .0) → looked ≡ cond (ltb (n .0) 65) (getD table h noSnapshot) absent → looked ≡ getD table (n .0) absent
-  snapshot-read n {looked} e f =
-      subst (λ (i : ℕ). looked ≡ cond (ltb (n .0) 65) (getD table i noSnapshot) absent) e f
-      ∙ read-at 65 table long (n .0) (λ (a : Snapshot). a) absent noSnapshot
-
-  pub exchange-made : {y : ℕ} {x : Exchange} {snapshot : Snapshot} (v : Effect) → y ≡ at 65 (v .changed .0) → x ≡ cond (ltb (v .changed .0) 65) (v .exchange) Nothing →
-      snapshot ≡ exchangedOf x (getD table y noSnapshot) → set table y snapshot ≡ tableOf v table
-  exchange-made v ey ex es =
-      rw (es, ex, ey)
-      (changed-at 65 table long (v .changed .0) exchangedOf (v .exchange) Nothing (λ s. refl) noSnapshot
-      ∙ either-store (exchangedOf (v .exchange)) noSnapshot absent table (v .changed .0))
-
-module _ (m : Rest) (table : List Snapshot) (t : ThreadId) (long : Long m) where
-  abbrev clock : ℕ
-  clock = more (m .clock)
-
+module _ (m : Rest) (t : ThreadId) (long : Long m) where
   -- the rest after a step of that number, with these arrays
-  abbrev after : ℕ → List Counts → SnapshotId → List Trace → List Slot → List Local → List Record → Rest
-  after step counters current traces slots locals records =
+  abbrev after : ℕ → SnapshotId → List Trace → List Slot → List Local → List Record → Rest
+  after step current traces slots locals records =
       record {
         threads = m .threads;
         keys = m .keys;
         clock = step;
         idle = m .idle;
-        counters = counters;
         current = current;
         traces = traces;
         slots = slots;
@@ -127,162 +204,222 @@ module _ (m : Rest) (table : List Snapshot) (t : ThreadId) (long : Long m) where
         records = records;
       }
 
-  abbrev rest : List Counts → SnapshotId → List Trace → List Slot → List Local → List Record → Rest
-  rest = after clock
+  built : {r r' : List Trace} {s s' : List Slot} {o o' : List Record} (step : ℕ) (n : SnapshotId) (l : List Local) → r ≡ r' → s ≡ s' →
+      o ≡ o' →
+      after step n r s l o ≡ after step n r' s' l o'
+  built step n l e f g = cc
 
-  built : {r r' : List Trace} {s s' : List Slot} {o o' : List Record} (c : List Counts) (n : SnapshotId) (l : List Local) (h : List Snapshot) → r ≡ r' → s ≡ s' → o ≡ o' →
-      wholeOf (rest c n r s l o) h ≡ wholeOf (rest c n r' s' l o') h
-  built c n l h e f g = cc
+  -- what the code stores of a turn
+  module _ (w : ℕ) where
+    abbrev clock : ℕ
+    clock = more (m .clock)
 
-  module _ (u : Turn) (v : Effect) (o : OpId) (key : ℕ) (looked : Snapshot) (w : SnapshotId) (seen : List Counts) where
-    abbrev n : ℕ
-    n = v .changed .0
+    abbrev l : Local
+    l = localIn m t
+
+    abbrev key : ℕ
+    key = ownIn m t .asked .key
+
+    abbrev v : Move
+    v = moveIn m t w
+
+    abbrev x : Request
+    x = asksOf m t
+
+    abbrev y : ℕ
+    y = at (suc mostOperations) (recordOf x .0)
+
+    abbrev e : ℕ
+    e = at mostOperations (l .op .0)
 
     abbrev own : List Record
-    own = set (m .records) (at 64 (o .0)) (cond (ltb (o .0) 64) (u .own) (getD (m .records) (at 64 (o .0)) noRecord))
+    own = set (m .records) e
+        (cond (ltb (l .op .0) mostOperations) (recordedBy clock (v .deed) (v .next) (ownIn m t)) (getD (m .records) e noRecord))
 
-    traced-at : set (m .traces) (at 65 n) (tracedOf (cond (ltb n 65) (v .exchange) Nothing) looked clock seen (getD (m .traces) (at 65 n) noTrace))
-        ≡ set (m .traces) n (tracedOf (v .exchange) looked clock seen (getD (m .traces) n noTrace))
-    traced-at = changed-at 65 (m .traces) (long .traces) n (λ (x : Exchange) (r : Trace). tracedOf x looked clock seen r) (v .exchange) Nothing (λ r. refl) noTrace
+    abbrev f : ℕ
+    f = at mostOperations (raisedOp (v .deed) .0)
 
-    raised-in : (rs : List Record) → length rs ≡ 64 →
-        set rs (at 64 (v .raised .0)) (cond (ltb (v .raised .0) 64) (raisedAt clock w (getD rs (at 64 (v .raised .0)) noRecord)) (getD rs (at 64 (v .raised .0)) noRecord))
-        ≡ raisedRecord clock w (v .raised) rs
-    raised-in rs h = change-at 64 rs h (v .raised .0) (raisedAt clock w) noRecord
+    owned : own ≡ set (m .records) (l .op .0) (recordedBy clock (v .deed) (v .next) (ownIn m t))
+    owned = store-at mostOperations (m .records) (long .records) (l .op .0) noRecord (recordedBy clock (v .deed) (v .next) (ownIn m t))
 
-    stored : wholeOf
-        (rest (raisedIn (m .counters) (v .raise .cell) (v .raise .target)) (currentOf (v .exchange) (m .current))
-        (set (m .traces) (at 65 n) (tracedOf (cond (ltb n 65) (v .exchange) Nothing) looked clock seen (getD (m .traces) (at 65 n) noTrace)))
-        (set (m .slots) (at 16 key) (cond (ltb key 16) (record { content = v .held }) (getD (m .slots) (at 16 key) noSlot)))
-        (set (m .locals) (t .0) (u .local))
-        (set own (at 64 (v .raised .0)) (cond (ltb (v .raised .0) 64) (raisedAt clock w (getD own (at 64 (v .raised .0)) noRecord)) (getD own (at 64 (v .raised .0)) noRecord))))
-        (tableOf v table)
-        ≡ wholeOf
-        (rest (raisedIn (m .counters) (v .raise .cell) (v .raise .target)) (currentOf (v .exchange) (m .current))
-        (set (m .traces) n (tracedOf (v .exchange) looked clock seen (getD (m .traces) n noTrace)))
-        (set (m .slots) key (record { content = v .held }))
-        (set (m .locals) (t .0) (u .local))
-        (raisedRecord clock w (v .raised) (set (m .records) (o .0) (u .own))))
-        (tableOf v table)
+    stored : after clock (currentBy x (m .current))
+        (set (m .traces) y (cond (thereOf x) (traceBy x w clock (l .seen) (getD (m .traces) y noTrace)) (getD (m .traces) y noTrace)))
+        (set (m .slots) (at mostKeys key)
+        (cond (ltb key mostKeys) (record { content = heldBy (v .deed) (heldIn m t) }) (getD (m .slots) (at mostKeys key) noSlot)))
+        (set (m .locals) (t .0) (stoodBy (v .deed) (v .next) l))
+        (set own f (cond (ltb (raisedOp (v .deed) .0) mostOperations) (raisedAt clock (windowNow m) (getD own f noRecord))
+        (getD own f noRecord)))
+        ≡ takenOf m t w
     stored =
-        built _ _ _ _ traced-at (store-at 16 (m .slots) (long .slots) key noSlot (record { content = v .held }))
-        (raised-in own (rw length-set (long .records)) ∙ ap (raisedRecord clock w (v .raised)) (store-at 64 (m .records) (long .records) (o .0) noRecord (u .own)))
+        built clock (currentBy x (m .current)) (set (m .locals) (t .0) (stoodBy (v .deed) (v .next) l))
+        (traces-at (m .traces) (long .traces) w clock (l .seen) x)
+        (store-at mostKeys (m .slots) (long .slots) key noSlot (record { content = heldBy (v .deed) (heldIn m t) }))
+        (raised-at own (rw length-set (long .records)) clock (windowNow m) (v .deed) ∙ ap (raisedBy (v .deed) clock (windowNow m)) owned)
 
   -- what the code has loaded is what the definition reads
-  record Loaded (k : ℕ) (l : Local) (r : Record) (held : Content) (n : SnapshotId) (looked : Snapshot) : Type 0 where
+  record Loaded (k : ℕ) (l : Local) (r : Record) (held : Content) : Type 0 where
     index : k ≡ t .0
-    local : l ≡ getD (m .locals) (t .0) noLocal
-    left : ltb (getD (m .locals) (t .0) noLocal .op .0) (getD (m .locals) (t .0) noLocal .end .0) ≡ true
+    local : l ≡ localIn m t
     own : r ≡ getD (m .records) (l .op .0) noRecord
     slot : held ≡ getD (m .slots) (r .asked .key) noSlot .content
-    snapshot : looked ≡ getD table (n .0) absent
 
-  loaded : {k e q : ℕ} {l : Local} {r : Record} {held : Content} {n : SnapshotId} {looked : Snapshot} →
-      k ≡ at 8 (t .0) → l ≡ getD (m .locals) k noLocal → (ltb (t .0) 8 && ltb (l .op .0) (l .end .0)) ≡ true →
-      e ≡ at 64 (l .op .0) → r ≡ cond (ltb (l .op .0) 64) (getD (m .records) e noRecord) noRecord →
-      q ≡ at 16 (r .asked .key) → held ≡ cond (ltb (r .asked .key) 16) (getD (m .slots) q noSlot .content) Empty →
-      looked ≡ getD table (n .0) absent → Loaded k l r held n looked
-  loaded {k} {e} {q} {l} {r} {held} {n} {looked} ek el eb ee er eq eh elo =
-      let both = and-true (ltb (t .0) 8) (ltb (l .op .0) (l .end .0)) eb in
+  -- of a thread that is there
+  pub there : {k : ℕ} {l : Local} → k ≡ at mostThreads (t .0) → l ≡ getD (m .locals) k noLocal →
+      (ltb (t .0) mostThreads && ltb (l .op .0) (l .end .0)) ≡ true →
+      (k ≡ t .0) × (l ≡ localIn m t) × (isBusy m t ≡ true)
+  there {k} {l} ek el eb =
+      let both = and-true (ltb (t .0) mostThreads) (ltb (l .op .0) (l .end .0)) eb in
       let k' : k ≡ t .0 = ek ∙ ap (λ (b : Bool). cond b (t .0) 0) (both .0) in
-      let l' : l ≡ getD (m .locals) (t .0) noLocal = el ∙ ap (λ (i : ℕ). getD (m .locals) i noLocal) k' in
+      let l' : l ≡ localIn m t = el ∙ ap (λ (i : ℕ). getD (m .locals) i noLocal) k' in
+      (k', l', subst (λ (a : Local). ltb (a .op .0) (a .end .0) ≡ true) l' (both .1))
+
+  pub own-read : {e : ℕ} (l : Local) {r : Record} → e ≡ at mostOperations (l .op .0) →
+      r ≡ cond (ltb (l .op .0) mostOperations) (getD (m .records) e noRecord) noRecord →
+      r ≡ getD (m .records) (l .op .0) noRecord
+  own-read {e} l {r} ee er =
+      subst (λ (i : ℕ). r ≡ cond (ltb (l .op .0) mostOperations) (getD (m .records) i noRecord) noRecord) ee er
+      ∙ read-at mostOperations (m .records) (long .records) (l .op .0) (λ (a : Record). a) noRecord noRecord
+
+  loaded : {k e q : ℕ} {l : Local} {r : Record} {held : Content} →
+      k ≡ t .0 → l ≡ localIn m t →
+      e ≡ at mostOperations (l .op .0) → r ≡ cond (ltb (l .op .0) mostOperations) (getD (m .records) e noRecord) noRecord →
+      q ≡ at mostKeys (r .asked .key) → held ≡ cond (ltb (r .asked .key) mostKeys) (getD (m .slots) q noSlot .content) Empty →
+      Loaded k l r held
+  loaded {k} {e} {q} {l} {r} {held} ek el ee er eq eh =
       record {
-        index = k';
-        local = l';
-        left = subst (λ (a : Local). ltb (a .op .0) (a .end .0) ≡ true) l' (both .1);
-        own =
-            subst (λ (i : ℕ). r ≡ cond (ltb (l .op .0) 64) (getD (m .records) i noRecord) noRecord) ee er
-            ∙ read-at 64 (m .records) (long .records) (l .op .0) (λ (a : Record). a) noRecord noRecord;
+        index = ek;
+        local = el;
+        own = own-read l ee er;
         slot =
-            subst (λ (i : ℕ). held ≡ cond (ltb (r .asked .key) 16) (getD (m .slots) i noSlot .content) Empty) eq eh
-            ∙ read-at 16 (m .slots) (long .slots) (r .asked .key) (λ (a : Slot). a .content) noSlot noSlot;
-        snapshot = elo;
+            subst (λ (i : ℕ). held ≡ cond (ltb (r .asked .key) mostKeys) (getD (m .slots) i noSlot .content) Empty) eq eh
+            ∙ read-at mostKeys (m .slots) (long .slots) (r .asked .key) (λ (a : Slot). a .content) noSlot noSlot;
       }
 
   -- a thread with an operation left takes its turn
-  module _ {k e q f y : ℕ} {l : Local} {r own raised : Record} {held : Content} {n : SnapshotId} {looked now : Snapshot} {w current : SnapshotId} {s : Sight} {u : Turn} {v : Effect} {slot : Slot} {x : Exchange} {trace : Trace} {table' : List Snapshot} {counters : List Counts} {step : ℕ} where
-    pub through : step ≡ more (m .clock) → k ≡ at 8 (t .0) → l ≡ getD (m .locals) k noLocal → (ltb (t .0) 8 && ltb (l .op .0) (l .end .0)) ≡ true →
-        e ≡ at 64 (l .op .0) → r ≡ cond (ltb (l .op .0) 64) (getD (m .records) e noRecord) noRecord →
-        q ≡ at 16 (r .asked .key) → held ≡ cond (ltb (r .asked .key) 16) (getD (m .slots) q noSlot .content) Empty →
-        n ≡ looksAtSnapshot (standsAt (l .point) (r .asked .call)) → looked ≡ getD table (n .0) absent →
-        now ≡ getD table (m .current .0) absent → w ≡ windowIn (m .current) now →
-        s ≡ seenFrom t (standsAt (l .point) (r .asked .call)) (m .counters) (m .current) looked → u ≡ turnOf t step (m .threads) l r held s → v ≡ effectOf u held (m .current) (l .seen) →
-        own ≡ cond (ltb (l .op .0) 64) (u .own) (getD (m .records) e noRecord) →
-        f ≡ at 64 (v .raised .0) → raised ≡ cond (ltb (v .raised .0) 64) (raisedAt step w (getD (set (m .records) e own) f noRecord)) (getD (set (m .records) e own) f noRecord) →
-        slot ≡ cond (ltb (r .asked .key) 16) (record { content = v .held }) (getD (m .slots) q noSlot) →
-        y ≡ at 65 (v .changed .0) → x ≡ cond (ltb (v .changed .0) 65) (v .exchange) Nothing →
-        trace ≡ tracedOf x looked step (l .seen) (getD (m .traces) y noTrace) → table' ≡ tableOf v table →
-        current ≡ currentOf (v .exchange) (m .current) → counters ≡ raisedIn (m .counters) (v .raise .cell) (v .raise .target) →
-        (wholeOf (after step counters current (set (m .traces) y trace) (set (m .slots) q slot) (set (m .locals) k (u .local)) (set (set (m .records) e own) f raised)) table' ≡ stepOf (wholeOf m table) t)
-        × Long (after step counters current (set (m .traces) y trace) (set (m .slots) q slot) (set (m .locals) k (u .local)) (set (set (m .records) e own) f raised))
-    unfolding stepOf
-    through es ek el eb ee er eq eh en elo eno ew ess eu ev eo ef era esl ey ex etr esn ecu eco =
-        let z = loaded {n = n} ek el eb ee er eq eh elo in
-        let w' : w ≡ windowIn (m .current) (getD table (m .current .0) absent) = ew ∙ ap (windowIn (m .current)) eno in (
-          rw (esn, etr, esl, era, eo, ecu, eco, ex, ey, ef, eq, ee, z .index, es)
-              (stored u v (l .op) (r .asked .key) looked w (l .seen)
-              ∙ rw (ev, eu, es, ess, w', z .snapshot, en, z .slot, z .own, z .local)
-              (whole-turn m table t (omega (arith, long .records)) (omega (arith, long .counters)) _ _ refl refl
-              ∙ ap (λ (b : Bool). cond b (accessed (wholeOf m table) t) (idled (wholeOf m table))) (sym (z .left)))),
-          record {
-            counters = ap (λ (b : List Counts). length b) eco ∙ length-set (m .counters) (v .raise .cell .thread .0) _ ∙ long .counters;
-            traces = length-set (m .traces) y trace ∙ long .traces;
-            slots = length-set (m .slots) q slot ∙ long .slots;
-            locals = length-set (m .locals) k (u .local) ∙ long .locals;
-            records = length-set (set (m .records) e own) f raised ∙ length-set (m .records) e own ∙ long .records;
-          },
-        )
+  module _ (heard : ℕ) {k e q f g y step : ℕ} {l : Local} {r own raised : Record} {held : Content} {w current : SnapshotId} {x : Request} {u : Turn} {slot : Slot} {trace : Trace} where
+    pub through : step ≡ more (m .clock) → k ≡ t .0 → l ≡ localIn m t →
+        e ≡ at mostOperations (l .op .0) → r ≡ cond (ltb (l .op .0) mostOperations) (getD (m .records) e noRecord) noRecord →
+        q ≡ at mostKeys (r .asked .key) → held ≡ cond (ltb (r .asked .key) mostKeys) (getD (m .slots) q noSlot .content) Empty →
+        x ≡ requestAt (standsAt (l .point) (r .asked .call)) t (m .current) (l .seen) → y ≡ at (suc mostOperations) (recordOf x .0) →
+        u ≡ turnOf t step (m .threads) l r held (m .current) heard →
+        own ≡ cond (ltb (l .op .0) mostOperations) (u .own) (getD (m .records) e noRecord) →
+        g ≡ at (suc mostOperations) (m .current .0) →
+        w ≡ cond (ltb (m .current .0) (suc mostOperations)) (windowIn (m .current) (getD (m .traces) g noTrace .closed)) (m .current) →
+        f ≡ at mostOperations (u .raised .0) →
+        raised ≡ cond (ltb (u .raised .0) mostOperations) (raisedAt step w (getD (set (m .records) e own) f noRecord))
+        (getD (set (m .records) e own) f noRecord) →
+        slot ≡ cond (ltb (r .asked .key) mostKeys) (record { content = u .held }) (getD (m .slots) q noSlot) →
+        trace ≡ cond (thereOf x) (traceBy x heard step (l .seen) (getD (m .traces) y noTrace)) (getD (m .traces) y noTrace) →
+        current ≡ currentBy x (m .current) →
+        after step current (set (m .traces) y trace) (set (m .slots) q slot) (set (m .locals) k (u .local))
+        (set (set (m .records) e own) f raised) ≡ takenOf m t heard
+    through es ek el ee er eq eh ex ey eu eo eg ew ef era esl etr ecu =
+        let z = loaded ek el ee er eq eh in
+        let w' : w ≡ windowNow m =
+        subst (λ (i : ℕ). w ≡ cond (ltb (m .current .0) (suc mostOperations))
+        (windowIn (m .current) (getD (m .traces) i noTrace .closed)) (m .current)) eg ew
+        ∙ read-at (suc mostOperations) (m .traces) (long .traces) (m .current .0)
+        (λ (a : Trace). windowIn (m .current) (a .closed)) noTrace noTrace in
+        rw (etr, esl, era, eo, ecu, w', ey, ef, eu, ex, eq, ee, ek, es, z .slot, z .own, z .local) (stored heard)
 
   -- and one whose access changed nothing else is done with its record and itself
-  module _ {k e q : ℕ} {l : Local} {r own : Record} {held : Content} {n : SnapshotId} {looked : Snapshot} {s : Sight} {u : Turn} {step : ℕ} where
-    pub glances : step ≡ more (m .clock) → k ≡ at 8 (t .0) → l ≡ getD (m .locals) k noLocal → (ltb (t .0) 8 && ltb (l .op .0) (l .end .0)) ≡ true →
-        e ≡ at 64 (l .op .0) → r ≡ cond (ltb (l .op .0) 64) (getD (m .records) e noRecord) noRecord →
-        q ≡ at 16 (r .asked .key) → held ≡ cond (ltb (r .asked .key) 16) (getD (m .slots) q noSlot .content) Empty →
-        n ≡ looksAtSnapshot (standsAt (l .point) (r .asked .call)) → looked ≡ getD table (n .0) absent →
-        s ≡ seenFrom t (standsAt (l .point) (r .asked .call)) (m .counters) (m .current) looked → u ≡ turnOf t step (m .threads) l r held s →
-        own ≡ cond (ltb (l .op .0) 64) (u .own) (getD (m .records) e noRecord) → quiet (u .deed) ≡ true →
-        (wholeOf (after step (m .counters) (m .current) (m .traces) (m .slots) (set (m .locals) k (u .local)) (set (m .records) e own)) table ≡ stepOf (wholeOf m table) t)
-        × Long (after step (m .counters) (m .current) (m .traces) (m .slots) (set (m .locals) k (u .local)) (set (m .records) e own))
-    unfolding stepOf
-    glances es ek el eb ee er eq eh en elo ess eu eo eqq =
-        let z = loaded {n = n} ek el eb ee er eq eh elo in (
-          rw (eo, ee, z .index, es)
-              (ap (λ (rs : List Record). wholeOf (rest (m .counters) (m .current) (m .traces) (m .slots) (set (m .locals) (t .0) (u .local)) rs) table) (store-at 64 (m .records) (long .records) (l .op .0) noRecord (u .own))
-              ∙ rw (eu, es, ess, z .snapshot, en, z .slot, z .own, z .local)
-              (quiet-turn m table t (omega (arith, long .records)) (omega (arith, long .counters)) _ refl (rw (eu, ess, z .snapshot, en, z .slot, z .own, z .local) at eqq)
-              ∙ ap (λ (b : Bool). cond b (accessed (wholeOf m table) t) (idled (wholeOf m table))) (sym (z .left)))),
-          record {
-            counters = long .counters;
-            traces = long .traces;
-            slots = long .slots;
-            locals = length-set (m .locals) k (u .local) ∙ long .locals;
-            records = length-set (m .records) e own ∙ long .records;
-          },
+  module _ (heard : ℕ) {k e q step : ℕ} {l : Local} {r own : Record} {held : Content} {u : Turn} where
+    pub glances : step ≡ more (m .clock) → k ≡ t .0 → l ≡ localIn m t →
+        e ≡ at mostOperations (l .op .0) → r ≡ cond (ltb (l .op .0) mostOperations) (getD (m .records) e noRecord) noRecord →
+        q ≡ at mostKeys (r .asked .key) → held ≡ cond (ltb (r .asked .key) mostKeys) (getD (m .slots) q noSlot .content) Empty →
+        u ≡ turnOf t step (m .threads) l r held (m .current) heard →
+        own ≡ cond (ltb (l .op .0) mostOperations) (u .own) (getD (m .records) e noRecord) →
+        (counters : List Counts) (table : List Snapshot) → u .quiet ≡ true →
+        (after step (m .current) (m .traces) (m .slots) (set (m .locals) k (u .local)) (set (m .records) e own)
+        ≡ glanced m counters table t (moveIn m t heard))
+        × (quiet (moveIn m t heard .deed) ≡ true)
+    glances es ek el ee er eq eh eu eo counters table eqq =
+        let z = loaded ek el ee er eq eh in (
+          rw (eo, eu, ee, ek, es, z .slot, z .own, z .local)
+              (ap (after (more (m .clock)) (m .current) (m .traces) (m .slots)
+              (set (m .locals) (t .0) (stoodBy (moveIn m t heard .deed) (moveIn m t heard .next) (localIn m t)))) (owned heard)),
+          rw (eu, z .slot, z .own, z .local) at eqq,
         )
 
   -- a thread with none left idles
-  pub idles : {k step idle : ℕ} {l : Local} → step ≡ more (m .clock) → idle ≡ more (m .idle) → k ≡ at 8 (t .0) → l ≡ getD (m .locals) k noLocal → (ltb (t .0) 8 && ltb (l .op .0) (l .end .0)) ≡ false →
-      wholeOf
-      (record {
-        threads = m .threads;
-        keys = m .keys;
-        clock = step;
-        idle = idle;
-        counters = m .counters;
-        current = m .current;
-        traces = m .traces;
-        slots = m .slots;
-        locals = m .locals;
-        records = m .records;
-      })
-      table
-      ≡ stepOf (wholeOf m table) t
-  unfolding stepOf
-  idles {k} {step} {idle} {l} es ei ek el eb =
-      rw (es, ei) (ap (λ (b : Bool). cond b (accessed (wholeOf m table) t) (idled (wholeOf m table))) (sym (left (ltb (t .0) 8) refl)))
+  pub idle : {k : ℕ} {l : Local} → k ≡ at mostThreads (t .0) → l ≡ getD (m .locals) k noLocal →
+      (ltb (t .0) mostThreads && ltb (l .op .0) (l .end .0)) ≡ false → isBusy m t ≡ false
+  idle {k} {l} ek el eb = left (ltb (t .0) mostThreads) refl
     where
-      left : (b : Bool) → ltb (t .0) 8 ≡ b → ltb (getD (m .locals) (t .0) noLocal .op .0) (getD (m .locals) (t .0) noLocal .end .0) ≡ false
+      left : (b : Bool) → ltb (t .0) mostThreads ≡ b → isBusy m t ≡ false
       left true h =
-          let l' : l ≡ getD (m .locals) (t .0) noLocal = el ∙ ap (λ (i : ℕ). getD (m .locals) i noLocal) (ek ∙ ap (λ (b : Bool). cond b (t .0) 0) h) in
+          let l' : l ≡ localIn m t = el ∙ ap (λ (i : ℕ). getD (m .locals) i noLocal) (ek ∙ ap (λ (b : Bool). cond b (t .0) 0) h) in
           subst (λ (a : Local). ltb (a .op .0) (a .end .0) ≡ false) l' (ap (λ (b : Bool). b && ltb (l .op .0) (l .end .0)) (sym h) ∙ eb)
-      left false h = ap (λ (a : Local). ltb (a .op .0) (a .end .0)) (getD-beyond (m .locals) (t .0) 8 (long .locals) (ltb-false (t .0) 8 h) noLocal)
+      left false h = ap (λ (a : Local). ltb (a .op .0) (a .end .0))
+          (getD-beyond (m .locals) (t .0) mostThreads (long .locals) (ltb-false (t .0) mostThreads h) noLocal)
+
+  -- an index that the definition reads is inside
+  pub busy-inside : isBusy m t ≡ true → at mostThreads (t .0) ≡ t .0
+  busy-inside busy = go (ltb (t .0) mostThreads) refl
+    where
+      go : (b : Bool) → ltb (t .0) mostThreads ≡ b → cond b (t .0) 0 ≡ t .0
+      go true h = refl
+      go false h =
+          tests-differ busy (ap (λ (a : Local). ltb (a .op .0) (a .end .0))
+          (getD-beyond (m .locals) (t .0) mostThreads (long .locals) (ltb-false (t .0) mostThreads h) noLocal))
+
+  pub asks-at : {e : ℕ} {l : Local} {r : Record} {x : Request} → l ≡ localIn m t → e ≡ at mostOperations (l .op .0) →
+      r ≡ cond (ltb (l .op .0) mostOperations) (getD (m .records) e noRecord) noRecord →
+      x ≡ requestAt (standsAt (l .point) (r .asked .call)) t (m .current) (l .seen) → x ≡ asksOf m t
+  asks-at {l = l} el ee er ex = ex ∙ rw (own-read l ee er, el)
+
+  -- ---- The machine with its own counters and table.
+
+  module _ (counters : List Counts) (table : List Snapshot) (eight : length counters ≡ mostThreads)
+      (longer : length table ≡ suc mostOperations) where
+    wholes : {r r' : Rest} {a a' : List Counts} {b b' : List Snapshot} → r ≡ r' → a ≡ a' → b ≡ b' → wholeOf r a b ≡ wholeOf r' a' b'
+    wholes {r} {r'} {a} {a'} {b} {b'} e f g =
+        ap (λ (z : Rest). wholeOf z a b) e ∙ ap (λ (z : List Counts). wholeOf r' z b) f ∙ ap (λ (z : List Snapshot). wholeOf r' a' z) g
+
+    heard-is : {x : Request} {d y w : ℕ} → x ≡ asksOf m t → d ≡ at mostThreads (counterOf x .0) →
+        y ≡ at (suc mostOperations) (recordOf x .0) →
+        w ≡ cond (thereOf x) (heardOf x (getD counters d (both 0)) (getD table y noSnapshot)) 0 → w ≡ heard (asksOf m t) counters table
+    heard-is ex ed ey ew = ew ∙ rw (ed, ey, ex) (heard-at counters table eight longer (asksOf m t))
+
+    busy-step : isBusy m t ≡ true → accessed (wholeOf m counters table) t ≡ stepOf (wholeOf m counters table) t
+    unfolding stepOf
+    busy-step e = ap (λ (b : Bool). cond b (accessed (wholeOf m counters table) t) (idled (wholeOf m counters table))) (sym e)
+
+    pub played : {x : Request} {d y w : ℕ} {pair : Counts} {s : Snapshot} {rest : Rest} → isBusy m t ≡ true → x ≡ asksOf m t →
+        d ≡ at mostThreads (counterOf x .0) → y ≡ at (suc mostOperations) (recordOf x .0) →
+        w ≡ cond (thereOf x) (heardOf x (getD counters d (both 0)) (getD table y noSnapshot)) 0 → rest ≡ takenOf m t w →
+        pair ≡ cond (thereOf x) (pairBy x (getD counters d (both 0))) (getD counters d (both 0)) →
+        s ≡ cond (thereOf x) (recordBy x (getD table y noSnapshot)) (getD table y noSnapshot) →
+        wholeOf rest (set counters d pair) (set table y s) ≡ stepOf (wholeOf m counters table) t
+    played {w = w} busy ex ed ey ew er ep es =
+        wholes er (rw (ep, ed, ex) (counters-at counters table eight longer (asksOf m t)))
+        (rw (es, ey, ex) (table-at counters table eight longer (asksOf m t)))
+        ∙ taken-steps m counters table t w (heard-is ex ed ey ew) ∙ busy-step busy
+
+    pub glimpsed : {x : Request} {d y w : ℕ} {rest : Rest} → isBusy m t ≡ true → x ≡ asksOf m t →
+        d ≡ at mostThreads (counterOf x .0) → y ≡ at (suc mostOperations) (recordOf x .0) →
+        w ≡ cond (thereOf x) (heardOf x (getD counters d (both 0)) (getD table y noSnapshot)) 0 →
+        (rest ≡ glanced m counters table t (moveIn m t w)) × (quiet (moveIn m t w .deed) ≡ true) →
+        wholeOf rest counters table ≡ stepOf (wholeOf m counters table) t
+    glimpsed {w = w} busy ex ed ey ew er =
+        ap (λ (z : Rest). wholeOf z counters table) (er .0) ∙ glanced-steps m counters table t w (heard-is ex ed ey ew) (er .1)
+        ∙ busy-step busy
+
+    pub idles : {step rested : ℕ} → isBusy m t ≡ false → step ≡ more (m .clock) → rested ≡ more (m .idle) →
+        wholeOf
+        (record {
+          threads = m .threads;
+          keys = m .keys;
+          clock = step;
+          idle = rested;
+          current = m .current;
+          traces = m .traces;
+          slots = m .slots;
+          locals = m .locals;
+          records = m .records;
+        })
+        counters table
+        ≡ stepOf (wholeOf m counters table) t
+    unfolding stepOf
+    idles e es ei = rw (es, ei)
+        (ap (λ (b : Bool). cond b (accessed (wholeOf m counters table) t) (idled (wholeOf m counters table))) (sym e))

@@ -1,9 +1,8 @@
 -- The changes, part by part, make up what the definition of a step says.
-use Prim.Native.Nat.{ℕ, suc, zero, _≤_}
+use Prim.Native.Nat.{ℕ, suc, zero}
 use mathlib.Core.Path.{_≡_, refl, sym, ap, _∙_}
 use mathlib.Core.List.{List, [], _∷_}
-use lib.ListN.{length, getD, set, length-set}
-use lib.Seq.{set-out}
+use lib.ListN.{getD, set}
 use Rattle.terms.specs.declared.ThreadId.{ThreadId}
 use Rattle.terms.specs.declared.OpId.{OpId}
 use Rattle.terms.specs.declared.SnapshotId.{SnapshotId}
@@ -25,8 +24,8 @@ use Rattle.figures.specs.declared.Record.{Record}
 use Rattle.figures.specs.declared.Machine.{Machine}
 use Rattle.figures.specs.Figure4.{more, windowOf, blockOf, setCount}
 use Rattle.figures.specs.Step.{noRecord, noSlot, noLocal, recordAt, localAt, withSeen, answered, counted, raisedAt, exchangedAt, withLook, withUsed, does, goesOn, ticked}
-use Rattle.machine.specs.Parts.{answeredBy, goesBy}
-use Rattle.machine.proofs.Changes.{raisedRecord, actedBy}
+use Rattle.machine.specs.Parts.{answeredBy, goesBy, raisedRecord}
+use Rattle.machine.proofs.Changes.{actedBy}
 
 module _ {A : Type 0} (d : A) where
   -- a store of what is there changes nothing
@@ -56,7 +55,7 @@ module _ {A : Type 0} (d : A) where
   kept p f e (x ∷ l) zero = e x
   kept p f e (x ∷ l) (suc i) = kept p f e l i
 
-module _ (m : Machine) (t : ThreadId) (o : OpId) (few : length (m .records) ≤ 255) where
+module _ (m : Machine) (t : ThreadId) (o : OpId) where
   abbrev step : ℕ
   step = more (m .clock)
 
@@ -94,13 +93,6 @@ module _ (m : Machine) (t : ThreadId) (o : OpId) (few : length (m .records) ≤ 
   abbrev counts : List Record
   counts = set (m .records) (o .0) (counted step (recordAt m o))
 
-  -- where no operation is raised, no record changes by it
-  abbrev unraised : List Record → List Record
-  unraised rs = raisedRecord step (windowOf (m .calculator)) (record { 0 = 255 }) rs
-
-  none-raised : (r : Record) → set (m .records) (o .0) r ≡ unraised (set (m .records) (o .0) r)
-  none-raised r = sym (set-out (set (m .records) (o .0) r) 255 _ (rw length-set few))
-
   counted-record : (x : Next) → ended x counts ≡ set (m .records) (o .0) (answeredBy step x (counted step (recordAt m o)))
   counted-record (To p) = refl
   counted-record (Returns a) = twice noRecord (counted step) (answered a step) (m .records) (o .0)
@@ -132,26 +124,26 @@ module _ (m : Machine) (t : ThreadId) (o : OpId) (few : length (m .records) ≤ 
   Together d x = goesOn x t o (does d t o (ticked o m)) ≡ actedBy d x step (t .0) o key m
 
   updates-together : (d : UpdateDeed) (u : Update) (x : Next) → Together (Updates d u) x
-  updates-together Reads u x = goes-on x _ _ _ _ ∙ built _ still refl (counted-record x ∙ none-raised _)
+  updates-together Reads u x = goes-on x _ _ _ _ ∙ built _ still refl (counted-record x)
   updates-together Raises u x = goes-on x _ _ _ _ ∙ built _ still refl (raised-record x (windowOf (m .calculator)) (u .node .op))
-  updates-together (Forwards n) u x = goes-on x _ _ _ _ ∙ built _ still refl (counted-record x ∙ none-raised _)
+  updates-together (Forwards n) u x = goes-on x _ _ _ _ ∙ built _ still refl (counted-record x)
 
   sizes-together : (d : SizeDeed) (x : Next) → Together (Sizes d) x
-  sizes-together Looks x = goes-on x _ _ _ _ ∙ built _ still refl (counted-record x ∙ none-raised _)
-  sizes-together Announces x = goes-on x _ _ _ _ ∙ built _ still refl (counted-record x ∙ none-raised _)
-  sizes-together (Collects n j v) x = goes-on x _ _ _ _ ∙ built _ still refl (counted-record x ∙ none-raised _)
+  sizes-together Looks x = goes-on x _ _ _ _ ∙ built _ still refl (counted-record x)
+  sizes-together Announces x = goes-on x _ _ _ _ ∙ built _ still refl (counted-record x)
+  sizes-together (Collects n j v) x = goes-on x _ _ _ _ ∙ built _ still refl (counted-record x)
   sizes-together (Lowers n) x =
-      goes-on x _ _ _ _ ∙ built _ still (twice noLocal (withSeen (blockOf 0)) (goesBy x) (m .locals) (t .0)) (counted-record x ∙ none-raised _)
+      goes-on x _ _ _ _ ∙ built _ still (twice noLocal (withSeen (blockOf 0)) (goesBy x) (m .locals) (t .0)) (counted-record x)
   sizes-together (Keeps j v) x =
-      goes-on x _ _ _ _ ∙ built _ still (twice noLocal (λ (l : Local). withSeen (setCount (l .seen) j v) l) (goesBy x) (m .locals) (t .0)) (counted-record x ∙ none-raised _)
-  sizes-together (Fixes n v) x = goes-on x _ _ _ _ ∙ built _ still refl (noted-record x (withUsed n) ∙ none-raised _)
-  sizes-together (Shares n) x = goes-on x _ _ _ _ ∙ built _ still refl (noted-record x (withUsed n) ∙ none-raised _)
+      goes-on x _ _ _ _ ∙ built _ still (twice noLocal (λ (l : Local). withSeen (setCount (l .seen) j v) l) (goesBy x) (m .locals) (t .0)) (counted-record x)
+  sizes-together (Fixes n v) x = goes-on x _ _ _ _ ∙ built _ still refl (noted-record x (withUsed n))
+  sizes-together (Shares n) x = goes-on x _ _ _ _ ∙ built _ still refl (noted-record x (withUsed n))
 
   pub together : (d : Deed) (x : Next) → Together d x
-  together Rests x = goes-on x _ _ _ _ ∙ built _ still refl (counted-record x ∙ none-raised _)
-  together (Finds c) x = goes-on x _ _ _ _ ∙ built _ still refl (noted-record x (withLook (record { read = step; found = c })) ∙ none-raised _)
-  together (Links n) x = goes-on x _ _ _ _ ∙ built _ (stored (Live n)) refl (noted-record x (exchangedAt (n .note .1) step) ∙ none-raised _)
-  together (Marks n d) x = goes-on x _ _ _ _ ∙ built _ (stored (Marked n d)) refl (noted-record x (exchangedAt (d .note .1) step) ∙ none-raised _)
-  together Unlinks x = goes-on x _ _ _ _ ∙ built _ (stored Empty) refl (counted-record x ∙ none-raised _)
+  together Rests x = goes-on x _ _ _ _ ∙ built _ still refl (counted-record x)
+  together (Finds c) x = goes-on x _ _ _ _ ∙ built _ still refl (noted-record x (withLook (record { read = step; found = c })))
+  together (Links n) x = goes-on x _ _ _ _ ∙ built _ (stored (Live n)) refl (noted-record x (exchangedAt (n .note .1) step))
+  together (Marks n d) x = goes-on x _ _ _ _ ∙ built _ (stored (Marked n d)) refl (noted-record x (exchangedAt (d .note .1) step))
+  together Unlinks x = goes-on x _ _ _ _ ∙ built _ (stored Empty) refl (counted-record x)
   together (Updates d u) x = updates-together d u x
   together (Sizes d) x = sizes-together d x

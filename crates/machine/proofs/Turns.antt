@@ -1,10 +1,10 @@
--- What a turn asks of memory is what its deed does: so the parts after a turn make up the machine after the step.
-use Prim.Native.Nat.{ℕ, suc, zero, _≤_, _-_}
+-- What an access asks, and the one number that it hears, tell all: what it does is decided by that number, and its deed changes no more
+-- than its request. So the parts after a turn make up the machine after the step.
+use Prim.Native.Nat.{ℕ, suc, zero, _-_}
 use mathlib.Core.Path.{_≡_, refl, sym, ap, subst, _∙_}
-use mathlib.Core.Bool.{Bool, true, false, cond}
+use mathlib.Core.Bool.{Bool, true, false, cond, not}
 use mathlib.Core.List.{List, [], _∷_}
-use lib.ListN.{length, getD, set, replicate, length-set}
-use lib.Seq.{set-out}
+use lib.ListN.{getD, set}
 use lib.Dec.{eqb}
 use Rattle.terms.specs.declared.ThreadId.{ThreadId}
 use Rattle.terms.specs.declared.OpId.{OpId}
@@ -47,22 +47,23 @@ use Rattle.figures.specs.declared.Local.{Local}
 use Rattle.figures.specs.declared.Record.{Record}
 use Rattle.figures.specs.declared.Machine.{Machine}
 use Rattle.figures.specs.Limits.{invalid}
-use Rattle.figures.specs.Figure4.{more, both, blockOf, countOf, withCount, countAt, setCount, newId, snapshotAt, noSnapshot, noTrace, sightOf, windowOf}
+use Rattle.figures.specs.Figure4.{more, both, withCount, countAt, setCount, newId, snapshotAt, noSnapshot, noTrace, sightOf}
 use Rattle.figures.specs.Figure5.{none}
 use Rattle.figures.specs.Figure6.{behind, onTo, done, goTo, firstCell, totalOf}
-use Rattle.figures.specs.Figure3.{update, deletion, nodeOf, goesTo, link, isLive, isMarked, cellOf, looksAtCell, looksAtSnapshot}
-use Rattle.figures.specs.Step.{noLocal, noSlot, noRecord, withCalculator, standsAt, accessOf, moveOf, accessed}
+use Rattle.figures.specs.Figure3.{update, deletion, nodeOf, goesTo, link, isLive, isMarked, updating, sizing, cellOf, looksAtCell, looksAtSnapshot}
+use Rattle.figures.specs.Step.{noSlot, withCalculator, standsAt, accessOf, moveOf, accessed, idled, stepOf}
 use Rattle.figures.proofs.Laws.{tests-differ}
-use Rattle.calculator.specs.declared.exchange.Exchange.{Exchange}
-use Rattle.calculator.specs.declared.exchange.Exchange.the-variants.{Nothing, OfCell, OfFlag, OfSize, Anew}
-use Rattle.calculator.specs.Exchanges.{absent, sightIn, windowIn, raisedIn, exchangedOf, tracedOf, currentOf}
-use Rattle.accesses.specs.Asks.{noRaise, raiseOf, asksOf, changesOf}
+use Rattle.calculator.specs.declared.exchange.Exchange.the-variants.{OfFlag, Anew}
+use Rattle.calculator.specs.declared.request.Request.{Request}
+use Rattle.calculator.specs.declared.request.Request.the-variants.{Nothing, Exchanges}
+use Rattle.calculator.specs.Exchanges.{absent, exchangedOf}
+use Rattle.calculator.specs.Requests.{recordIn, sightBy, heard, countersBy, tableBy, currentBy, tracesBy}
+use Rattle.accesses.specs.Requests.{requestAt}
 use Rattle.machine.specs.declared.Rest.{Rest}
-use Rattle.machine.specs.declared.Turn.{Turn}
-use Rattle.machine.specs.declared.Effect.{Effect}
-use Rattle.machine.specs.Parts.{seenFrom, turnOf, effectOf, quiet, heldBy, raisedOp, stoodBy, recordedBy, wholeOf}
-use Rattle.machine.proofs.Changes.{updatedBy, sizedBy, calculatedBy, raisedRecord, nextOf, tableOf}
+use Rattle.machine.specs.Parts.{quiet, heldBy, raisedBy, stoodBy, recordedBy, wholeOf, localIn, ownIn, heldIn, isBusy, windowNow, asksOf, requestOf, moveIn, takenOf, idledOf, decidedOf}
+use Rattle.machine.proofs.Changes.{updatedBy, sizedBy, calculatedBy, actedBy}
 use Rattle.machine.proofs.Together.{same, together}
+use Rattle.machine.proofs.Zeros.{no-cell}
 
 -- ---- Defaults. Which one a read past the end gives does not matter to what is the same of both, nor to a store there.
 
@@ -77,24 +78,6 @@ module _ {A : Type 0} where
   either-store f d e [] i = refl
   either-store f d e (x ∷ l) zero = refl
   either-store f d e (x ∷ l) (suc i) = ap (λ (r : List A). x ∷ r) (either-store f d e l i)
-
-zeros : (n i : ℕ) → getD (replicate n (both 0)) i (both 0) ≡ both 0
-zeros zero i = refl
-zeros (suc n) zero = refl
-zeros (suc n) (suc i) = zeros n i
-
-no-cell : (j : Cell) → countAt (blockOf 0) j ≡ countAt [] j
-no-cell j = ap (countOf (j .kind)) (zeros 8 (j .thread .0))
-
-pub either-sight : (count : ℕ) (current : SnapshotId) (j : Cell) → sightIn count current absent j ≡ sightIn count current noSnapshot j
-either-sight count current j = rw (no-cell j)
-
-either-trace : (x : Exchange) (step : ℕ) (seen : List Counts) (t : Trace) → tracedOf x absent step seen t ≡ tracedOf x noSnapshot step seen t
-either-trace Nothing step seen t = refl
-either-trace (OfCell j known v) step seen t = refl
-either-trace OfFlag step seen t = refl
-either-trace (OfSize v) step seen t = refl
-either-trace (Anew b) step seen t = refl
 
 -- the moves that change something, and a record with another cell
 abbrev forwarded : SnapshotId → UpdateMove
@@ -115,165 +98,251 @@ marking n d = record { next = update (deletion d) (ToUnlink n d); deed = Marks n
 abbrev withCell : Cell → ℕ → Snapshot → Snapshot
 withCell j v s = record { cells = setCount (s .cells) j v; collecting = s .collecting; size = s .size }
 
--- ---- The calculator: what an access asks is what its deed does.
+abbrev withSize : ℕ → Snapshot → Snapshot
+withSize v s = record { cells = s .cells; collecting = s .collecting; size = v }
 
-module _ (t : ThreadId) (o : OpId) (k : Call) (threads : ℕ) (seen : List Counts) (held : Content) (step : ℕ) (c : Calculator) (few : length (c .counters) ≤ 255) where
-  abbrev deedAt : Point → Deed
-  deedAt p = accessOf p t o k threads seen (sightOf c (looksAtSnapshot p) (looksAtCell t p)) held .deed
+-- the flag, as the number that is heard
+flag-heard : (b : Bool) → b ≡ not (eqb (cond b 1 0) 0)
+flag-heard true = refl
+flag-heard false = refl
 
-  -- the calculator, when x is asked of record n by one who looked at record m
-  abbrev asked : List Counts → Exchange → SnapshotId → SnapshotId → Calculator
-  asked counters x n m =
+first-closes : (b : Bool) (step closed : ℕ) → cond b step closed ≡ cond (eqb (cond b 1 0) 0) closed step
+first-closes true step closed = refl
+first-closes false step closed = refl
+
+module _ (t : ThreadId) (o : OpId) (k : Call) (threads : ℕ) (seen : List Counts) (held : Content) (step : ℕ) (c : Calculator) where
+  abbrev asked : Point → Request
+  asked p = requestAt p t (c .current) seen
+
+  abbrev hears : Point → ℕ
+  hears p = heard (asked p) (c .counters) (c .snapshots)
+
+  abbrev found : SnapshotId → Snapshot
+  found n = recordIn (c .snapshots) n
+
+  -- ---- An access is decided by the number heard.
+
+  abbrev byHeard : Point → Move
+  byHeard p = accessOf p t o k threads seen (sightBy (hears p) (c .current)) held
+
+  abbrev flagged : Bool → Sight
+  flagged b = record { count = 0; current = c .current; collecting = b; cell = 0; size = 0 }
+
+  abbrev valued : ℕ → Sight
+  valued v = record { count = 0; current = c .current; collecting = false; cell = v; size = v }
+
+  flag-of : (n : SnapshotId) → snapshotAt c n .collecting ≡ found n .collecting
+  flag-of n = either-read (λ (s : Snapshot). s .collecting) noSnapshot absent refl (c .snapshots) (n .0)
+
+  raised-flag : (n : SnapshotId) → snapshotAt c n .collecting ≡ not (eqb (cond (found n .collecting) 1 0) 0)
+  raised-flag n = flag-of n ∙ flag-heard (found n .collecting)
+
+  cell-of : (n : SnapshotId) (j : Cell) → countAt (snapshotAt c n .cells) j ≡ countAt (found n .cells) j
+  cell-of n j = either-read (λ (s : Snapshot). countAt (s .cells) j) noSnapshot absent (sym (no-cell j)) (c .snapshots) (n .0)
+
+  size-of : (n : SnapshotId) → snapshotAt c n .size ≡ found n .size
+  size-of n = either-read (λ (s : Snapshot). s .size) noSnapshot absent refl (c .snapshots) (n .0)
+
+  abbrev Decides : Point → Type 0
+  Decides p = accessOf p t o k threads seen (sightOf c (looksAtSnapshot p) (looksAtCell t p)) held ≡ byHeard p
+
+  update-decides : (p : UpdatePoint) (u : Update) (a : After) → Decides (Updating p u a)
+  update-decides ReadCount u a = refl
+  update-decides RaiseCount u a = refl
+  update-decides ReadCurrent u a = refl
+  update-decides (ReadFlag n) u a = ap (λ (b : Bool). updating (ReadFlag n) u a (flagged b)) (raised-flag n)
+  update-decides (ReadAgain n) u a = refl
+  update-decides (ReadCell n) u a = ap (λ (v : ℕ). updating (ReadCell n) u a (valued v)) (cell-of n (cellOf u))
+  update-decides (Forward n known) u a = ap (λ (v : ℕ). updating (Forward n known) u a (valued v)) (cell-of n (cellOf u))
+
+  size-decides : (p : SizePoint) → Decides (Sizing p)
+  size-decides FindCurrent = refl
+  size-decides (FindFlag n) = ap (λ (b : Bool). sizing (FindFlag n) threads seen (flagged b)) (raised-flag n)
+  size-decides (Announce n) = refl
+  size-decides (CollectCount n j) = refl
+  size-decides (CollectCell n j v) = ap (λ (x : ℕ). sizing (CollectCell n j v) threads seen (valued x)) (cell-of n j)
+  size-decides (CollectSet n j v) = ap (λ (x : ℕ). sizing (CollectSet n j v) threads seen (valued x)) (cell-of n j)
+  size-decides (LowerFlag n) = refl
+  size-decides (SumCell n j) = ap (λ (x : ℕ). sizing (SumCell n j) threads seen (valued x)) (cell-of n j)
+  size-decides (FixSize n) = ap (λ (x : ℕ). sizing (FixSize n) threads seen (valued x)) (size-of n)
+
+  pub decides : (p : Point) → Decides p
+  decides Idle = refl
+  decides ReadSlot = refl
+  decides (Updating p u a) = update-decides p u a
+  decides CountInsertions = refl
+  decides (Link g) = refl
+  decides (HelpUnlink n d) = refl
+  decides (CountDeletions n) = refl
+  decides (Mark n g) = refl
+  decides (Unlink n d) = refl
+  decides (Sizing p) = size-decides p
+
+  -- ---- Its deed changes what its request changes.
+
+  -- the calculator after a request that heard w
+  abbrev made : Request → ℕ → Calculator
+  made x w =
       record {
-        counters = counters;
-        current = currentOf x (c .current);
-        snapshots = set (c .snapshots) (n .0) (exchangedOf x (getD (c .snapshots) (n .0) noSnapshot));
-        traces = set (c .traces) (n .0) (tracedOf x (getD (c .snapshots) (m .0) noSnapshot) step seen (getD (c .traces) (n .0) noTrace));
+        counters = countersBy x (c .counters);
+        current = currentBy x (c .current);
+        snapshots = tableBy x (c .snapshots);
+        traces = tracesBy x w step seen (c .traces);
       }
 
-  abbrev askedAt : Point → Calculator
-  askedAt p =
-      asked (raisedIn (c .counters) (raiseOf p .cell) (raiseOf p .target)) (asksOf p (c .current) seen) (changesOf p (c .current))
-      (looksAtSnapshot p)
+  abbrev Changes : Point → Type 0
+  Changes p = calculatedBy (byHeard p .deed) step seen c ≡ made (asked p) (hears p)
 
   built : {a a' : List Counts} {n n' : SnapshotId} {s s' : List Snapshot} {r r' : List Trace} → a ≡ a' → n ≡ n' → s ≡ s' → r ≡ r' →
-      _≡_ {A = Calculator} (record { counters = a; current = n; snapshots = s; traces = r }) (record { counters = a'; current = n'; snapshots = s'; traces = r' })
+      _≡_ {A = Calculator} (record { counters = a; current = n; snapshots = s; traces = r })
+      (record { counters = a'; current = n'; snapshots = s'; traces = r' })
   built e f g h = cc
+
+  same-trace : (n : SnapshotId) → c .traces ≡ set (c .traces) (n .0) (getD (c .traces) (n .0) noTrace)
+  same-trace n = sym (same noTrace (c .traces) (n .0))
 
   -- record n is s now, and nothing else changed
   abbrev changed : Snapshot → SnapshotId → Calculator
   changed s n =
       record {
-        counters = raisedIn (c .counters) (noRaise .cell) (noRaise .target);
+        counters = c .counters;
         current = c .current;
         snapshots = set (c .snapshots) (n .0) s;
         traces = set (c .traces) (n .0) (getD (c .traces) (n .0) noTrace);
       }
 
-  abbrev fixedOr : Bool → SnapshotId → ℕ → Calculator
-  fixedOr b n v =
-      let s = snapshotAt c n in
-      let r = getD (c .traces) (n .0) noTrace in
-      record {
-        counters = raisedIn (c .counters) (noRaise .cell) (noRaise .target);
+  -- nothing was asked, or what was asked changed nothing
+  unasked : (n : SnapshotId) →
+      c ≡ record {
+        counters = c .counters;
         current = c .current;
-        snapshots = set (c .snapshots) (n .0) (cond b (record { cells = s .cells; collecting = s .collecting; size = v }) s);
-        traces = set (c .traces) (n .0) (cond b (record { announced = r .announced; closed = r .closed; seen = seen }) r);
+        snapshots = c .snapshots;
+        traces = set (c .traces) (n .0)
+            (getD (c .traces) (n .0) noTrace);
       }
+  unasked n = built refl refl refl (same-trace n)
 
-  -- no counter is raised
-  unraised : (p : Counts) → c .counters ≡ set (c .counters) 255 p
-  unraised p = sym (set-out (c .counters) 255 p few)
-
-  unasked : (n m : SnapshotId) → c ≡ asked (raisedIn (c .counters) (noRaise .cell) (noRaise .target)) Nothing n m
-  unasked n m = built (unraised _) refl (sym (same noSnapshot (c .snapshots) (n .0))) (sym (same noTrace (c .traces) (n .0)))
-
-  raises : (u : Update) (a : After) → calculatedBy (deedAt (Updating RaiseCount u a)) step seen c ≡ askedAt (Updating RaiseCount u a)
-  raises u a = go (eqb (countAt (c .counters) (cellOf u)) (u .node .note .1 .0 - 1))
-    where
-      go : (b : Bool) → updatedBy (cond b Raises Reads) u c ≡
-          asked (set (c .counters) (cellOf u .thread .0) (cond b (withCount (cellOf u .kind) (u .node .note .1 .0) (getD (c .counters) (cellOf u .thread .0) (both 0))) (getD (c .counters) (cellOf u .thread .0) (both 0)))) Nothing none none
-      go true = built refl refl (sym (same noSnapshot (c .snapshots) 0)) (sym (same noTrace (c .traces) 0))
-      go false = built (sym (same (both 0) (c .counters) (cellOf u .thread .0))) refl (sym (same noSnapshot (c .snapshots) 0)) (sym (same noTrace (c .traces) 0))
+  unchanged : (n : SnapshotId) → c ≡ changed (found n) n
+  unchanged n = built refl refl (sym (same absent (c .snapshots) (n .0))) (same-trace n)
 
   read-only : (p : UpdatePoint) (u : Update) (b : Bool) → updatedBy (cond b (onTo p) done .deed) u c ≡ c
   read-only p u true = refl
   read-only p u false = refl
 
-  flags : (n : SnapshotId) (u : Update) (a : After) → calculatedBy (deedAt (Updating (ReadFlag n) u a)) step seen c ≡ c
-  flags n u a = read-only (ReadAgain n) u (snapshotAt c n .collecting)
+  raises : (u : Update) (a : After) → Changes (Updating RaiseCount u a)
+  raises u a = go (eqb (countAt (c .counters) (cellOf u)) (u .node .note .1 .0 - 1))
+    where
+      go : (b : Bool) → updatedBy (cond b Raises Reads) u c ≡
+          record {
+            counters = set (c .counters) (cellOf u .thread .0)
+                (cond b (withCount (cellOf u .kind) (u .node .note .1 .0) (getD (c .counters) (cellOf u .thread .0) (both 0)))
+                (getD (c .counters) (cellOf u .thread .0) (both 0)));
+            current = c .current;
+            snapshots = c .snapshots;
+            traces = set (c .traces) 0 (getD (c .traces) 0 noTrace);
+          }
+      go true = built refl refl refl (same-trace none)
+      go false = built (sym (same (both 0) (c .counters) (cellOf u .thread .0))) refl refl (same-trace none)
 
-  again : (n : SnapshotId) (u : Update) (a : After) → calculatedBy (deedAt (Updating (ReadAgain n) u a)) step seen c ≡ c
-  again n u a = read-only (ReadCell n) u (eqb (countAt (c .counters) (cellOf u)) (u .node .note .1 .0))
-
-  cells : (n : SnapshotId) (u : Update) (a : After) → calculatedBy (deedAt (Updating (ReadCell n) u a)) step seen c ≡ c
-  cells n u a = read-only (Forward n (countAt (snapshotAt c n .cells) (cellOf u))) u (behind (countAt (snapshotAt c n .cells) (cellOf u)) (u .node .note .1))
-
-  forwards : (n : SnapshotId) (known : ℕ) (u : Update) (a : After) → calculatedBy (deedAt (Updating (Forward n known) u a)) step seen c ≡ askedAt (Updating (Forward n known) u a)
-  forwards n known u a = go (eqb (countAt (snapshotAt c n .cells) (cellOf u)) known) (behind (countAt (snapshotAt c n .cells) (cellOf u)) (u .node .note .1))
+  forwards : (n : SnapshotId) (known : ℕ) (u : Update) (a : After) → Changes (Updating (Forward n known) u a)
+  forwards n known u a = go (eqb (countAt (found n .cells) (cellOf u)) known)
+      (behind (countAt (found n .cells) (cellOf u)) (u .node .note .1))
     where
       go : (b d : Bool) →
-          updatedBy (cond b (forwarded n) (cond d (onTo (Forward n (countAt (snapshotAt c n .cells) (cellOf u)))) done) .deed) u c ≡
-          changed (cond b (withCell (cellOf u) (u .node .note .1 .0) (snapshotAt c n)) (snapshotAt c n)) n
-      go true d = built (unraised _) refl refl (sym (same noTrace (c .traces) (n .0)))
-      go false true = unasked n n
-      go false false = unasked n n
+          updatedBy (cond b (forwarded n) (cond d (onTo (Forward n (countAt (found n .cells) (cellOf u)))) done) .deed) u c ≡
+          changed (cond b (withCell (cellOf u) (u .node .note .1 .0) (found n)) (found n)) n
+      go true d = built refl refl (either-store (withCell (cellOf u) (u .node .note .1 .0)) noSnapshot absent (c .snapshots) (n .0))
+          (same-trace n)
+      go false true = unchanged n
+      go false false = unchanged n
 
-  update-asked : (p : UpdatePoint) (u : Update) (a : After) → calculatedBy (deedAt (Updating p u a)) step seen c ≡ askedAt (Updating p u a)
-  update-asked ReadCount u a = unasked none none
-  update-asked RaiseCount u a = raises u a
-  update-asked ReadCurrent u a = unasked none none
-  update-asked (ReadFlag n) u a = flags n u a ∙ unasked n n
-  update-asked (ReadAgain n) u a = again n u a ∙ unasked n n
-  update-asked (ReadCell n) u a = cells n u a ∙ unasked n n
-  update-asked (Forward n known) u a = forwards n known u a
+  update-changes : (p : UpdatePoint) (u : Update) (a : After) → Changes (Updating p u a)
+  update-changes ReadCount u a = unasked none
+  update-changes RaiseCount u a = raises u a
+  update-changes ReadCurrent u a = unasked none
+  update-changes (ReadFlag n) u a = read-only (ReadAgain n) u (not (eqb (hears (Updating (ReadFlag n) u a)) 0)) ∙ unasked n
+  update-changes (ReadAgain n) u a = read-only (ReadCell n) u (eqb (countAt (c .counters) (cellOf u)) (u .node .note .1 .0)) ∙ unasked none
+  update-changes (ReadCell n) u a = read-only (Forward n (countAt (found n .cells) (cellOf u))) u
+      (behind (countAt (found n .cells) (cellOf u)) (u .node .note .1)) ∙ unasked n
+  update-changes (Forward n known) u a = forwards n known u a
 
-  announces : (n : SnapshotId) → calculatedBy (deedAt (Sizing (Announce n))) step seen c ≡ askedAt (Sizing (Announce n))
-  announces n = go (eqb (c .current .0) (n .0))
+  announces : (n : SnapshotId) → Changes (Sizing (Announce n))
+  announces n = go (eqb (c .current .0) (n .0)) (hears (Sizing (Announce n)))
     where
-      go : (b : Bool) → sizedBy (cond b (announcing (c .current)) (goTo (CollectCount (c .current) firstCell)) .deed) step seen c ≡ asked (raisedIn (c .counters) (noRaise .cell) (noRaise .target)) (cond b (Anew true) Nothing) (newId (c .current)) n
-      go true = built (unraised _) refl refl refl
-      go false = unasked (newId (c .current)) n
+      go : (b : Bool) (w : ℕ) → sizedBy (cond b (announcing (c .current)) (goTo (CollectCount (c .current) firstCell)) .deed) step seen c ≡
+          made (cond b (Exchanges (newId (c .current)) (Anew true)) Nothing) w
+      go true w = refl
+      go false w = unasked none
 
-  collects : (n : SnapshotId) (j : Cell) (v : ℕ) → calculatedBy (deedAt (Sizing (CollectSet n j v))) step seen c ≡ askedAt (Sizing (CollectSet n j v))
-  collects n j v = go (eqb (countAt (snapshotAt c n .cells) j) invalid)
+  collects : (n : SnapshotId) (j : Cell) (v : ℕ) → Changes (Sizing (CollectSet n j v))
+  collects n j v = go (eqb (countAt (found n .cells) j) invalid)
     where
-      go : (b : Bool) → sizedBy (cond b (Collects n j v) Looks) step seen c ≡ changed (cond b (withCell j v (snapshotAt c n)) (snapshotAt c n)) n
-      go true = built (unraised _) refl refl (sym (same noTrace (c .traces) (n .0)))
-      go false = unasked n n
+      go : (b : Bool) → sizedBy (cond b (Collects n j v) Looks) step seen c ≡ changed (cond b (withCell j v (found n)) (found n)) n
+      go true = built refl refl (either-store (withCell j v) noSnapshot absent (c .snapshots) (n .0)) (same-trace n)
+      go false = unchanged n
 
-  fixes : (n : SnapshotId) → calculatedBy (deedAt (Sizing (FixSize n))) step seen c ≡ askedAt (Sizing (FixSize n))
-  fixes n = go (eqb (snapshotAt c n .size) invalid)
+  lowers : (n : SnapshotId) → Changes (Sizing (LowerFlag n))
+  lowers n =
+      let r = getD (c .traces) (n .0) noTrace in
+      built refl refl (either-store (exchangedOf OfFlag) noSnapshot absent (c .snapshots) (n .0))
+      (ap (λ (closed : ℕ). set (c .traces) (n .0) (record { announced = r .announced; closed = closed; fixed = r .fixed; seen = r .seen }))
+      (ap (λ (b : Bool). cond b step (r .closed)) (flag-of n) ∙ first-closes (found n .collecting) step (r .closed)))
+
+  fixes : (n : SnapshotId) → Changes (Sizing (FixSize n))
+  fixes n = go (eqb (found n .size) invalid)
     where
-      go : (b : Bool) → sizedBy (cond b (fixing n (totalOf seen)) (sharing n (snapshotAt c n .size)) .deed) step seen c ≡
-          fixedOr b n (totalOf seen)
-      go true = built (unraised _) refl refl refl
-      go false = unasked n n
+      go : (b : Bool) → sizedBy (cond b (fixing n (totalOf seen)) (sharing n (found n .size)) .deed) step seen c ≡
+          record {
+            counters = c .counters;
+            current = c .current;
+            snapshots = set (c .snapshots) (n .0) (cond b (withSize (totalOf seen) (found n)) (found n));
+            traces = set (c .traces) (n .0)
+                (cond b (record {
+                  announced = getD (c .traces) (n .0) noTrace .announced;
+                  closed = getD (c .traces)
+                      (n .0) noTrace .closed;
+                  fixed = step;
+                  seen = seen;
+                }) (getD (c .traces) (n .0) noTrace));
+          }
+      go true = built refl refl (either-store (withSize (totalOf seen)) noSnapshot absent (c .snapshots) (n .0)) refl
+      go false = unchanged n
 
-  size-asked : (p : SizePoint) → calculatedBy (deedAt (Sizing p)) step seen c ≡ askedAt (Sizing p)
-  size-asked FindCurrent = unasked none none
-  size-asked (FindFlag n) = unasked n n
-  size-asked (Announce n) = announces n
-  size-asked (CollectCount n j) = unasked n n
-  size-asked (CollectCell n j v) = unasked n n
-  size-asked (CollectSet n j v) = collects n j v
-  size-asked (LowerFlag n) = built (unraised _) refl refl refl
-  size-asked (SumCell n j) = unasked n n
-  size-asked (FixSize n) = fixes n
+  size-changes : (p : SizePoint) → Changes (Sizing p)
+  size-changes FindCurrent = unasked none
+  size-changes (FindFlag n) = unasked n
+  size-changes (Announce n) = announces n
+  size-changes (CollectCount n j) = unasked none
+  size-changes (CollectCell n j v) = unasked n
+  size-changes (CollectSet n j v) = collects n j v
+  size-changes (LowerFlag n) = lowers n
+  size-changes (SumCell n j) = unasked n
+  size-changes (FixSize n) = fixes n
 
-  links : (g : Target) → calculatedBy (deedAt (Link g)) step seen c ≡ c
-  links g = go held
-    where
-      go : (h : Content) → calculatedBy (link t o g h .deed) step seen c ≡ c
-      go Empty = refl
-      go (Live n) = refl
-      go (Marked n d) = refl
+  links : (g : Target) (h : Content) → calculatedBy (link t o g h .deed) step seen c ≡ c
+  links g Empty = refl
+  links g (Live n) = refl
+  links g (Marked n d) = refl
 
-  unlinks : (n d : Node) → (calculatedBy (deedAt (Unlink n d)) step seen c ≡ c) × (calculatedBy (deedAt (HelpUnlink n d)) step seen c ≡ c)
-  unlinks n d = (go (isMarked n d held), go (isMarked n d held))
-    where
-      go : (b : Bool) → calculatedBy (cond b Unlinks Rests) step seen c ≡ c
-      go true = refl
-      go false = refl
+  unlinks : (b : Bool) → calculatedBy (cond b Unlinks Rests) step seen c ≡ c
+  unlinks true = refl
+  unlinks false = refl
 
-  marks : (n : Node) (g : Target) → calculatedBy (deedAt (Mark n g)) step seen c ≡ c
-  marks n g = go (isLive n held)
-    where
-      go : (b : Bool) → calculatedBy (cond b (marking n (nodeOf t g o)) (goesTo ReadSlot) .deed) step seen c ≡ c
-      go true = refl
-      go false = refl
+  marks : (n : Node) (g : Target) (b : Bool) → calculatedBy (cond b (marking n (nodeOf t g o)) (goesTo ReadSlot) .deed) step seen c ≡ c
+  marks n g true = refl
+  marks n g false = refl
 
-  pub all-asked : (p : Point) → calculatedBy (deedAt p) step seen c ≡ askedAt p
-  all-asked Idle = unasked none none
-  all-asked ReadSlot = unasked none none
-  all-asked (Updating p u a) = update-asked p u a
-  all-asked CountInsertions = unasked none none
-  all-asked (Link g) = links g ∙ unasked none none
-  all-asked (HelpUnlink n d) = unlinks n d .1 ∙ unasked none none
-  all-asked (CountDeletions n) = unasked none none
-  all-asked (Mark n g) = marks n g ∙ unasked none none
-  all-asked (Unlink n d) = unlinks n d .0 ∙ unasked none none
-  all-asked (Sizing p) = size-asked p
+  pub changes : (p : Point) → Changes p
+  changes Idle = unasked none
+  changes ReadSlot = unasked none
+  changes (Updating p u a) = update-changes p u a
+  changes CountInsertions = unasked none
+  changes (Link g) = links g held ∙ unasked none
+  changes (HelpUnlink n d) = unlinks (isMarked n d held) ∙ unasked none
+  changes (CountDeletions n) = unasked none
+  changes (Mark n g) = marks n g (isLive n held) ∙ unasked none
+  changes (Unlink n d) = unlinks (isMarked n d held) ∙ unasked none
+  changes (Sizing p) = size-changes p
 
 -- ---- A deed that is quiet changes neither the calculator nor a slot, and raises nothing.
 
@@ -281,25 +350,25 @@ module _ (step : ℕ) (seen : List Counts) (c : Calculator) (h : Content) where
   pub record Still (d : Deed) : Type 0 where
     pub calculator : calculatedBy d step seen c ≡ c
     pub held : heldBy d h ≡ h
-    pub raised : raisedOp d ≡ record { 0 = 255 }
+    pub raised : (w : SnapshotId) (rs : List Record) → raisedBy d step w rs ≡ rs
 
   updates-still : (d : UpdateDeed) (u : Update) → quiet (Updates d u) ≡ true → Still (Updates d u)
-  updates-still Reads u e = record { calculator = refl; held = refl; raised = refl }
+  updates-still Reads u e = record { calculator = refl; held = refl; raised = λ w rs. refl }
   updates-still Raises u e = tests-differ e refl
   updates-still (Forwards n) u e = tests-differ e refl
 
   sizes-still : (d : SizeDeed) → quiet (Sizes d) ≡ true → Still (Sizes d)
-  sizes-still Looks e = record { calculator = refl; held = refl; raised = refl }
+  sizes-still Looks e = record { calculator = refl; held = refl; raised = λ w rs. refl }
   sizes-still Announces e = tests-differ e refl
   sizes-still (Collects n j v) e = tests-differ e refl
   sizes-still (Lowers n) e = tests-differ e refl
-  sizes-still (Keeps j v) e = record { calculator = refl; held = refl; raised = refl }
+  sizes-still (Keeps j v) e = record { calculator = refl; held = refl; raised = λ w rs. refl }
   sizes-still (Fixes n v) e = tests-differ e refl
-  sizes-still (Shares n) e = record { calculator = refl; held = refl; raised = refl }
+  sizes-still (Shares n) e = record { calculator = refl; held = refl; raised = λ w rs. refl }
 
   pub still : (d : Deed) → quiet d ≡ true → Still d
-  still Rests e = record { calculator = refl; held = refl; raised = refl }
-  still (Finds f) e = record { calculator = refl; held = refl; raised = refl }
+  still Rests e = record { calculator = refl; held = refl; raised = λ w rs. refl }
+  still (Finds f) e = record { calculator = refl; held = refl; raised = λ w rs. refl }
   still (Links n) e = tests-differ e refl
   still (Marks n d) e = tests-differ e refl
   still Unlinks e = tests-differ e refl
@@ -308,124 +377,97 @@ module _ (step : ℕ) (seen : List Counts) (c : Calculator) (h : Content) where
 
 -- ---- The whole step.
 
-module _ (m : Rest) (table : List Snapshot) (t : ThreadId) (few-records : length (m .records) ≤ 255) (few-counters : length (m .counters) ≤ 255) where
+module _ (m : Rest) (counters : List Counts) (table : List Snapshot) (t : ThreadId) where
+  abbrev whole : Machine
+  whole = wholeOf m counters table
+
   abbrev l : Local
-  l = getD (m .locals) (t .0) noLocal
+  l = localIn m t
 
   abbrev r : Record
-  r = getD (m .records) (l .op .0) noRecord
-
-  abbrev key : ℕ
-  key = r .asked .key
-
-  abbrev held : Content
-  held = getD (m .slots) key noSlot .content
+  r = ownIn m t
 
   abbrev p : Point
   p = standsAt (l .point) (r .asked .call)
 
-  abbrev looked : Snapshot
-  looked = getD table (looksAtSnapshot p .0) absent
+  abbrev w₀ : ℕ
+  w₀ = heard (asksOf m t) counters table
 
-  abbrev step : ℕ
-  step = more (m .clock)
+  abbrev acted : Move → Machine
+  acted v = actedBy (v .deed) (v .next) (more (m .clock)) (t .0) (l .op) (r .asked .key) whole
 
-  abbrev turned : Sight → Turn
-  turned s = turnOf t step (m .threads) l r held s
-
-  abbrev effect : Sight → Effect
-  effect s = effectOf (turned s) held (m .current) (l .seen)
-
-  abbrev sight : Sight
-  sight = sightOf (wholeOf m table .calculator) (looksAtSnapshot p) (looksAtCell t p)
-
-  abbrev x : Exchange
-  x = asksOf p (m .current) (l .seen)
-
-  abbrev n : ℕ
-  n = changesOf p (m .current) .0
-
-  abbrev trace : Trace
-  trace = getD (m .traces) n noTrace
-
-  calculators : {s s' : List Snapshot} {r r' : List Trace} → s ≡ s' → r ≡ r' → (a : List Counts) (k : SnapshotId) →
-      _≡_ {A = Calculator} (record { counters = a; current = k; snapshots = s; traces = r }) (record { counters = a; current = k; snapshots = s'; traces = r' })
-  calculators e f a k = cc
-
-  calculated : wholeOf (nextOf (turned sight) (effect sight) t (l .op) key looked (windowOf (wholeOf m table .calculator)) m) (tableOf (effect sight) table) .calculator
-      ≡ calculatedBy (accessOf p t (l .op) (r .asked .call) (m .threads) (l .seen) sight held .deed) step (l .seen) (wholeOf m table .calculator)
-  calculated =
-      calculators (either-store (exchangedOf x) absent noSnapshot table n)
-      (ap (set (m .traces) n)
-      (either-read (λ (s : Snapshot). tracedOf x s step (l .seen) trace) absent noSnapshot (either-trace x step (l .seen) trace) table (looksAtSnapshot p .0)))
-      _ _
-      ∙ sym (all-asked t (l .op) (r .asked .call) (m .threads) (l .seen) held step (wholeOf m table .calculator) few-counters p)
-
-  whole : wholeOf (nextOf (turned sight) (effect sight) t (l .op) key looked (windowOf (wholeOf m table .calculator)) m) (tableOf (effect sight) table)
-      ≡ accessed (wholeOf m table) t
+  steps : acted (moveIn m t w₀) ≡ accessed whole t
   unfolding accessed moveOf
-  whole =
-      ap (λ (c : Calculator). with-calculator c) calculated
-      ∙ sym (together (wholeOf m table) t (l .op) few-records (moveOf (wholeOf m table) t .deed) (moveOf (wholeOf m table) t .next))
-    where
-      with-calculator : Calculator → Machine
-      with-calculator c = withCalculator c (wholeOf (nextOf (turned sight) (effect sight) t (l .op) key looked (windowOf (wholeOf m table .calculator)) m) table)
+  steps =
+      ap acted (sym (decides t (l .op) (r .asked .call) (m .threads) (l .seen) (heldIn m t) (more (m .clock)) (whole .calculator) p))
+      ∙ sym (together whole t (l .op) (moveOf whole t .deed) (moveOf whole t .next))
 
-  pub whole-turn : (s : Sight) (w : SnapshotId) → s ≡ seenFrom t p (m .counters) (m .current) looked → w ≡ windowIn (m .current) (getD table (m .current .0) absent) →
-      wholeOf (nextOf (turned s) (effect s) t (l .op) key looked w m) (tableOf (effect s) table) ≡ accessed (wholeOf m table) t
-  whole-turn s w e f =
-      let j = looksAtCell t p in
-      let e' : s ≡ sight = e ∙ either-read (λ (a : Snapshot). sightIn (countAt (m .counters) j) (m .current) a j) absent noSnapshot (either-sight (countAt (m .counters) j) (m .current) j) table (looksAtSnapshot p .0) in
-      let f' : w ≡ windowOf (wholeOf m table .calculator) = f ∙ either-read (windowIn (m .current)) absent noSnapshot refl table (m .current .0) in
-      subst (λ (a : Sight). wholeOf (nextOf (turned a) (effect a) t (l .op) key looked w m) (tableOf (effect a) table) ≡ accessed (wholeOf m table) t) (sym e')
-      (subst (λ (b : SnapshotId). wholeOf (nextOf (turned sight) (effect sight) t (l .op) key looked b m) (tableOf (effect sight) table) ≡ accessed (wholeOf m table) t) (sym f') whole)
+  taken : wholeOf (takenOf m t w₀) (countersBy (asksOf m t) counters) (tableBy (asksOf m t) table) ≡ accessed whole t
+  taken =
+      ap (λ (c : Calculator). withCalculator c (wholeOf (takenOf m t w₀) counters table))
+      (sym (changes t (l .op) (r .asked .call) (m .threads) (l .seen) (heldIn m t) (more (m .clock)) (whole .calculator) p))
+      ∙ steps
 
-  -- the rest after a quiet turn of thread t in operation o
-  abbrev glanced : Turn → Rest
+  pub taken-steps : (w : ℕ) → w ≡ heard (asksOf m t) counters table →
+      wholeOf (takenOf m t w) (countersBy (asksOf m t) counters) (tableBy (asksOf m t) table) ≡ accessed whole t
+  taken-steps w e = subst
+      (λ (v : ℕ). wholeOf (takenOf m t v) (countersBy (asksOf m t) counters) (tableBy (asksOf m t) table) ≡ accessed whole t) (sym e) taken
+
+  -- after a quiet turn nothing is stored but the operation's record and the thread
+  abbrev pub glanced : Move → Rest
   glanced v =
       record {
         threads = m .threads;
         keys = m .keys;
-        clock = step;
+        clock = more (m .clock);
         idle = m .idle;
-        counters = m .counters;
         current = m .current;
         traces = m .traces;
         slots = m .slots;
-        locals = set (m .locals) (t .0) (v .local);
-        records = set (m .records) (l .op .0) (v .own);
+        locals = set (m .locals) (t .0) (stoodBy (v .deed) (v .next) l);
+        records = set (m .records) (l .op .0) (recordedBy (more (m .clock)) (v .deed) (v .next) r);
       }
 
-  quiet-whole : quiet (turned sight .deed) ≡ true → wholeOf (glanced (turned sight)) table ≡ accessed (wholeOf m table) t
-  unfolding accessed moveOf
-  quiet-whole q =
-      let d = turned sight .deed in
-      let z = still step (l .seen) (wholeOf m table .calculator) held d q in
+  glances : quiet (moveIn m t w₀ .deed) ≡ true → wholeOf (glanced (moveIn m t w₀)) counters table ≡ accessed whole t
+  glances q =
+      let z = still (more (m .clock)) (l .seen) (whole .calculator) (heldIn m t) (moveIn m t w₀ .deed) q in
       wholes (sym (z .calculator))
-      (sym (ap (λ (h : Content). set (m .slots) key (record { content = h })) (z .held) ∙ same noSlot (m .slots) key))
-      (sym (ap (λ (u : OpId). raisedRecord step (windowOf (wholeOf m table .calculator)) u (set (m .records) (l .op .0) (turned sight .own))) (z .raised)
-      ∙ set-out (set (m .records) (l .op .0) (turned sight .own)) 255 _ (rw length-set few-records)))
-      ∙ sym (together (wholeOf m table) t (l .op) few-records (moveOf (wholeOf m table) t .deed) (moveOf (wholeOf m table) t .next))
+      (sym (ap (λ (h : Content). set (m .slots) (r .asked .key) (record { content = h })) (z .held)
+      ∙ same noSlot (m .slots) (r .asked .key)))
+      (sym (z .raised (windowNow m)
+      (set (m .records) (l .op .0) (recordedBy (more (m .clock)) (moveIn m t w₀ .deed) (moveIn m t w₀ .next) r))))
+      ∙ steps
     where
       whole' : Calculator → List Slot → List Record → Machine
       whole' c s o =
           record {
             threads = m .threads;
             keys = m .keys;
-            clock = step;
+            clock = more (m .clock);
             idle = m .idle;
             calculator = c;
             slots = s;
-            locals = set (m .locals) (t .0) (turned sight .local);
+            locals = set (m .locals) (t .0) (stoodBy (moveIn m t w₀ .deed) (moveIn m t w₀ .next) l);
             records = o;
           }
 
       wholes : {c c' : Calculator} {s s' : List Slot} {o o' : List Record} → c ≡ c' → s ≡ s' → o ≡ o' → whole' c s o ≡ whole' c' s' o'
       wholes e f g = cc
 
-  pub quiet-turn : (s : Sight) → s ≡ seenFrom t p (m .counters) (m .current) looked → quiet (turned s .deed) ≡ true →
-      wholeOf (glanced (turned s)) table ≡ accessed (wholeOf m table) t
-  quiet-turn s e =
-      let j = looksAtCell t p in
-      let e' : s ≡ sight = e ∙ either-read (λ (a : Snapshot). sightIn (countAt (m .counters) j) (m .current) a j) absent noSnapshot (either-sight (countAt (m .counters) j) (m .current) j) table (looksAtSnapshot p .0) in
-      subst (λ (a : Sight). quiet (turned a .deed) ≡ true → wholeOf (glanced (turned a)) table ≡ accessed (wholeOf m table) t) (sym e') quiet-whole
+  pub glanced-steps : (w : ℕ) → w ≡ heard (asksOf m t) counters table → quiet (moveIn m t w .deed) ≡ true →
+      wholeOf (glanced (moveIn m t w)) counters table ≡ accessed whole t
+  glanced-steps w e = subst
+      (λ (v : ℕ). quiet (moveIn m t v .deed) ≡ true → wholeOf (glanced (moveIn m t v)) counters table ≡ accessed whole t) (sym e) glances
+
+  -- the rest after a step, with the counters and the table after its request, is the machine after the step
+  pub decided-steps : (w : ℕ) → w ≡ heard (requestOf m t) counters table →
+      wholeOf (decidedOf m t w) (countersBy (requestOf m t) counters) (tableBy (requestOf m t) table) ≡ stepOf whole t
+  unfolding stepOf
+  decided-steps w = go (isBusy m t)
+    where
+      go : (b : Bool) → w ≡ heard (cond b (asksOf m t) Nothing) counters table →
+          wholeOf (cond b (takenOf m t w) (idledOf m)) (countersBy (cond b (asksOf m t) Nothing) counters)
+          (tableBy (cond b (asksOf m t) Nothing) table)
+          ≡ cond b (accessed whole t) (idled whole)
+      go true e = taken-steps w e
+      go false e = refl

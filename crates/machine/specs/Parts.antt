@@ -1,9 +1,12 @@
--- What an access changes, part by part: of its operation's record, of its thread, of its slot, and what else it asks for. The
--- contracts of the functions that make these changes cite them; that they make up a step is proved in proofs/Together.antt,
--- proofs/Turns.antt and proofs/Stored.antt.
-use Prim.Native.Nat.{ℕ}
-use mathlib.Core.Bool.{Bool, true, false}
+-- What an access changes, part by part: of its operation's record, of its thread, of its slot; and a whole step of a machine without its
+-- counters and its table of snapshots, by what the step asks of these and the one number that it hears. The contracts of the functions
+-- that make these changes cite them; that they make up a step is proved in proofs/Together.antt, proofs/Turns.antt and
+-- proofs/Stored.antt.
+use Prim.Native.Nat.{ℕ, suc}
+use mathlib.Core.Bool.{Bool, true, false, cond}
 use mathlib.Core.List.{List}
+use lib.ListN.{getD, set}
+use lib.Dec.{ltb}
 use Rattle.terms.specs.declared.ThreadId.{ThreadId}
 use Rattle.terms.specs.declared.OpId.{OpId}
 use Rattle.terms.specs.declared.SnapshotId.{SnapshotId}
@@ -22,17 +25,17 @@ use Rattle.figures.specs.declared.Next.the-variants.{To, Returns}
 use Rattle.figures.specs.declared.Local.{Local}
 use Rattle.figures.specs.declared.Record.{Record}
 use Rattle.figures.specs.declared.Move.{Move}
-use Rattle.figures.specs.declared.Point.{Point}
-use Rattle.figures.specs.declared.Sight.{Sight}
 use Rattle.figures.specs.declared.Snapshot.{Snapshot}
 use Rattle.figures.specs.declared.Machine.{Machine}
-use Rattle.figures.specs.Figure4.{blockOf, countAt, setCount, raised}
-use Rattle.figures.specs.Figure3.{looksAtCell}
-use Rattle.figures.specs.Step.{withLook, withUsed, counted, answered, exchangedAt, withSeen, standing, finished, standsAt, accessOf}
-use Rattle.calculator.specs.Exchanges.{sightIn}
-use Rattle.accesses.specs.Asks.{raiseOf, asksOf, changesOf}
+use Rattle.figures.specs.Limits.{mostThreads, mostOperations}
+use Rattle.figures.specs.Figure4.{more, blockOf, setCount, noTrace}
+use Rattle.figures.specs.Step.{noSlot, noLocal, noRecord, withLook, withUsed, counted, answered, exchangedAt, raisedAt, withSeen, standing, finished, standsAt, accessOf}
+use Rattle.calculator.specs.declared.request.Request.{Request}
+use Rattle.calculator.specs.declared.request.Request.the-variants.{Nothing, Count, Raise, Flag, Value, Exchanges}
+use Rattle.calculator.specs.Exchanges.{windowIn}
+use Rattle.calculator.specs.Requests.{sightBy, currentBy, tracesBy}
+use Rattle.accesses.specs.Requests.{requestAt}
 use Rattle.machine.specs.declared.Turn.{Turn}
-use Rattle.machine.specs.declared.Effect.{Effect}
 use Rattle.machine.specs.declared.Rest.{Rest}
 
 -- ---- Of the operation's record: the step is counted; what the deed tells of it; the answer.
@@ -100,8 +103,26 @@ heldBy Unlinks c = Empty
 heldBy (Updates d u) c = c
 heldBy (Sizes d) c = c
 
--- ---- Of another operation's record: the update that is raised, by whichever thread; 255 where none is.
+-- ---- Of another operation's record: the update that is raised, by whichever thread, at this step, while snapshot w is being collected.
 
+abbrev pub raisedRecord : ℕ → SnapshotId → OpId → List Record → List Record
+raisedRecord step w o rs = set rs (o .0) (raisedAt step w (getD rs (o .0) noRecord))
+
+abbrev pub raisesBy : UpdateDeed → Update → ℕ → SnapshotId → List Record → List Record
+raisesBy Reads u step w rs = rs
+raisesBy Raises u step w rs = raisedRecord step w (u .node .op) rs
+raisesBy (Forwards n) u step w rs = rs
+
+abbrev pub raisedBy : Deed → ℕ → SnapshotId → List Record → List Record
+raisedBy Rests step w rs = rs
+raisedBy (Finds c) step w rs = rs
+raisedBy (Links n) step w rs = rs
+raisedBy (Marks n d) step w rs = rs
+raisedBy Unlinks step w rs = rs
+raisedBy (Updates d u) step w rs = raisesBy d u step w rs
+raisedBy (Sizes d) step w rs = rs
+
+-- the code's number of that operation, 255 where none is raised
 abbrev pub raisesOp : UpdateDeed → Update → OpId
 raisesOp Reads u = record { 0 = 255 }
 raisesOp Raises u = u .node .op
@@ -116,29 +137,14 @@ raisedOp Unlinks = record { 0 = 255 }
 raisedOp (Updates d u) = raisesOp d u
 raisedOp (Sizes d) = record { 0 = 255 }
 
--- ---- A turn: what an access that stands at p gives, from the small parts that it is told.
+-- ---- A turn: what an access gives that heard this number, from the small parts that it is told.
 
--- what an access of thread t sees
-abbrev pub seenFrom : ThreadId → Point → List Counts → SnapshotId → Snapshot → Sight
-seenFrom t p counters current looked =
-    sightIn (countAt counters (looksAtCell t p)) current looked (looksAtCell t p)
+-- the access itself, by thread t of so many, in the operation of record r, on a slot that holds this
+abbrev pub moveBy : ThreadId → ℕ → Local → Record → Content → SnapshotId → ℕ → Move
+moveBy t threads l r held current heard =
+    accessOf (standsAt (l .point) (r .asked .call)) t (l .op) (r .asked .call) threads (l .seen) (sightBy heard current) held
 
--- its operation's record, its thread, where it stood and what it did
-abbrev pub turnBy : Point → Move → ℕ → Local → Record → Turn
-turnBy p v step l r =
-    record {
-      own = recordedBy step (v .deed) (v .next) r;
-      local = stoodBy (v .deed) (v .next) l;
-      point = p;
-      deed = v .deed;
-    }
-
-abbrev pub turnOf : ThreadId → ℕ → ℕ → Local → Record → Content → Sight → Turn
-turnOf t step threads l r held s =
-    let p = standsAt (l .point) (r .asked .call) in
-    turnBy p (accessOf p t (l .op) (r .asked .call) threads (l .seen) s held) step l r
-
--- a deed that changes nothing but these two
+-- a deed that changes nothing but its operation's record and its thread
 abbrev pub readsOnly : UpdateDeed → Bool
 readsOnly Reads = true
 readsOnly Raises = false
@@ -162,26 +168,37 @@ quiet Unlinks = false
 quiet (Updates d u) = readsOnly d
 quiet (Sizes d) = looksOnly d
 
--- what else it changes: the operation that it raises, the slot's content, a counter, and a record of the table of snapshots
-abbrev pub effectOf : Turn → Content → SnapshotId → List Counts → Effect
-effectOf v held current seen =
+abbrev pub turnBy : Move → ℕ → Local → Record → Content → Turn
+turnBy v step l r held =
     record {
-      raised = raisedOp (v .deed);
+      own = recordedBy step (v .deed) (v .next) r;
+      local = stoodBy (v .deed) (v .next) l;
       held = heldBy (v .deed) held;
-      raise = raiseOf (v .point);
-      exchange = asksOf (v .point) current seen;
-      changed = changesOf (v .point) current;
+      raised = raisedOp (v .deed);
+      quiet = quiet (v .deed);
     }
 
--- a machine is the table of snapshots and the rest
-abbrev pub wholeOf : Rest → List Snapshot → Machine
-wholeOf m table =
+abbrev pub turnOf : ThreadId → ℕ → ℕ → Local → Record → Content → SnapshotId → ℕ → Turn
+turnOf t step threads l r held current heard = turnBy (moveBy t threads l r held current heard) step l r held
+
+-- what a request names is there in a machine's own counters and table
+abbrev pub thereOf : Request → Bool
+thereOf Nothing = true
+thereOf (Count j) = ltb (j .thread .0) mostThreads
+thereOf (Raise j c) = ltb (j .thread .0) mostThreads
+thereOf (Flag n) = ltb (n .0) (suc mostOperations)
+thereOf (Value n j) = ltb (n .0) (suc mostOperations)
+thereOf (Exchanges n x) = ltb (n .0) (suc mostOperations)
+
+-- a machine is the counters, the table of snapshots, and the rest
+abbrev pub wholeOf : Rest → List Counts → List Snapshot → Machine
+wholeOf m counters table =
     record {
       threads = m .threads;
       keys = m .keys;
       clock = m .clock;
       idle = m .idle;
-      calculator = record { counters = m .counters; current = m .current; snapshots = table; traces = m .traces };
+      calculator = record { counters = counters; current = m .current; snapshots = table; traces = m .traces };
       slots = m .slots;
       locals = m .locals;
       records = m .records;
@@ -194,10 +211,74 @@ restOf m =
       keys = m .keys;
       clock = m .clock;
       idle = m .idle;
-      counters = m .calculator .counters;
       current = m .calculator .current;
       traces = m .calculator .traces;
       slots = m .slots;
       locals = m .locals;
       records = m .records;
     }
+
+-- ---- A step of the rest: what thread t asks of the counters and of the table, and the rest after it heard a number.
+
+abbrev pub localIn : Rest → ThreadId → Local
+localIn m t = getD (m .locals) (t .0) noLocal
+
+abbrev pub ownIn : Rest → ThreadId → Record
+ownIn m t = getD (m .records) (localIn m t .op .0) noRecord
+
+abbrev pub heldIn : Rest → ThreadId → Content
+heldIn m t = getD (m .slots) (ownIn m t .asked .key) noSlot .content
+
+-- it has an operation left
+abbrev pub isBusy : Rest → ThreadId → Bool
+isBusy m t = ltb (localIn m t .op .0) (localIn m t .end .0)
+
+-- the snapshot that is being collected
+abbrev pub windowNow : Rest → SnapshotId
+windowNow m = windowIn (m .current) (getD (m .traces) (m .current .0) noTrace .closed)
+
+abbrev pub asksOf : Rest → ThreadId → Request
+asksOf m t = requestAt (standsAt (localIn m t .point) (ownIn m t .asked .call)) t (m .current) (localIn m t .seen)
+
+-- nothing where the thread has no operation left, or is not there
+abbrev pub requestOf : Rest → ThreadId → Request
+requestOf m t = cond (isBusy m t) (asksOf m t) Nothing
+
+abbrev pub takenBy : Move → Request → ℕ → ThreadId → Rest → Rest
+takenBy v x heard t m =
+    let step = more (m .clock) in
+    let l = localIn m t in
+    record {
+      threads = m .threads;
+      keys = m .keys;
+      clock = step;
+      idle = m .idle;
+      current = currentBy x (m .current);
+      traces = tracesBy x heard step (l .seen) (m .traces);
+      slots = set (m .slots) (ownIn m t .asked .key) (record { content = heldBy (v .deed) (heldIn m t) });
+      locals = set (m .locals) (t .0) (stoodBy (v .deed) (v .next) l);
+      records = raisedBy (v .deed) step (windowNow m) (set (m .records) (l .op .0) (recordedBy step (v .deed) (v .next) (ownIn m t)));
+    }
+
+abbrev pub moveIn : Rest → ThreadId → ℕ → Move
+moveIn m t heard = moveBy t (m .threads) (localIn m t) (ownIn m t) (heldIn m t) (m .current) heard
+
+abbrev pub takenOf : Rest → ThreadId → ℕ → Rest
+takenOf m t heard = takenBy (moveIn m t heard) (asksOf m t) heard t m
+
+abbrev pub idledOf : Rest → Rest
+idledOf m =
+    record {
+      threads = m .threads;
+      keys = m .keys;
+      clock = more (m .clock);
+      idle = more (m .idle);
+      current = m .current;
+      traces = m .traces;
+      slots = m .slots;
+      locals = m .locals;
+      records = m .records;
+    }
+
+abbrev pub decidedOf : Rest → ThreadId → ℕ → Rest
+decidedOf m t heard = cond (isBusy m t) (takenOf m t heard) (idledOf m)

@@ -4,19 +4,15 @@
 mod parts;
 pub mod told;
 
-use accesses::Raise;
-use calculator::exchange::Exchange;
-use calculator::exchange::exchanged;
-use calculator::exchange::traced;
+use calculator::figure4::THREADS;
 use calculator::figure4::one_more;
-use calculator::figure4::window_of;
+use calculator::request::Request;
+use calculator::request::current_by;
 use figures::Calculator;
 use figures::Content;
 use figures::Counts;
-use figures::Deed;
 use figures::Local;
 use figures::Machine;
-use figures::Point;
 use figures::Record;
 use figures::Slot;
 use figures::Snapshot;
@@ -24,66 +20,57 @@ use figures::Trace;
 use terms::OpId;
 use terms::SnapshotId;
 use terms::ThreadId;
+use told::asks;
 use told::content_or_empty;
-use told::counters_of;
-use told::current_of;
-use told::effect_of;
-use told::exchange_or_none;
+use told::counter_in;
+use told::hears;
 use told::is_busy;
-use told::looks;
 use told::own_or_same;
+use told::pair_after;
 use told::raised_or_same;
+use told::record_after;
 use told::record_at;
+use told::record_in;
 use told::record_or_none;
-use told::sees;
 use told::slot_at;
 use told::slot_or_same;
 use told::snapshot_at;
-use told::snapshot_or_none;
 use told::thread_at;
+use told::trace_after;
 use told::turn_of;
-use told::was_quiet;
+use told::window_in;
 ghost use mathlib.Core.Path.{_≡_};
+ghost use mathlib.Core.Bool.{true};
 ghost use Rattle.figures.specs.Step.{stepOf, runOf};
-ghost use Rattle.machine.specs.Parts.{wholeOf, restOf};
+ghost use Rattle.machine.specs.Parts.{wholeOf, restOf, isBusy, requestOf, takenOf, idledOf, decidedOf};
 
-// What an access gives: its operation's record, the thread, where it stood, and what it did.
+// What an access gives: its operation's record, the thread, the slot's content, the operation that it raised (255: none), and whether it
+// changed the first two alone.
 pub struct Turn {
     pub own: Record,
     pub local: Local,
-    pub point: Point,
-    pub deed: Deed,
-}
-
-// What else it changes: the operation that it raised (255: none), the slot's content, the counter that it exchanges, and the exchange
-// that it makes in the table of snapshots and where.
-pub struct Effect {
-    pub raised: OpId,
     pub held: Content,
-    pub raise: Raise,
-    pub exchange: Exchange,
-    pub changed: SnapshotId,
+    pub raised: OpId,
+    pub quiet: bool,
 }
 
-// A machine without its table of snapshots, which may be lent.
+// A machine without its counters and its table of snapshots, which may be lent.
 pub struct Rest {
     pub threads: u8,
     pub keys: u8,
     pub clock: u32,
     pub idle: u32,
-    pub counters: [Counts; 8],
     pub current: SnapshotId,
-    pub traces: [Trace; 65],
-    pub slots: [Slot; 16],
-    pub locals: [Local; 8],
-    pub records: [Record; 64],
+    pub traces: [Trace; Machine::OPERATIONS + 1],
+    pub slots: [Slot; Machine::KEYS as usize],
+    pub locals: [Local; THREADS],
+    pub records: [Record; Machine::OPERATIONS],
 }
 
 pub fn rest_of(m: Machine) -> Rest
     ensures { λ r. ⌜ r ≡ restOf m ⌝ }
 {
     let c = m.calculator;
-    let counters = c.counters;
     let traces = c.traces;
     let slots = m.slots;
     let locals = m.locals;
@@ -94,7 +81,6 @@ pub fn rest_of(m: Machine) -> Rest
         keys: m.keys,
         clock: m.clock,
         idle: m.idle,
-        counters: counters,
         current: current,
         traces: traces,
         slots: slots,
@@ -103,10 +89,13 @@ pub fn rest_of(m: Machine) -> Rest
     }
 }
 
-pub fn whole_of(m: Rest, table: [Snapshot; 65]) -> Machine
-    ensures { λ r. ⌜ r ≡ wholeOf m table ⌝ }
+pub fn whole_of(
+    m: Rest,
+    counters: [Counts; THREADS],
+    table: [Snapshot; Machine::OPERATIONS + 1],
+) -> Machine
+    ensures { λ r. ⌜ r ≡ wholeOf m counters table ⌝ }
 {
-    let counters = m.counters;
     let traces = m.traces;
     let slots = m.slots;
     let locals = m.locals;
@@ -130,12 +119,87 @@ pub fn whole_of(m: Rest, table: [Snapshot; 65]) -> Machine
     }
 }
 
-// A whole schedule. The arrays stay in this function's frame, so each step is written out here: what the access is told is loaded, the
-// turn is taken by value, and what it gives is stored.
+// ---- A step in two halves, for who holds the counters and the table: what thread t asks of them, and the rest after it heard a number.
+
+pub fn asked(m: Rest, t: ThreadId) -> Request
+    ensures { λ r. ⌜ r ≡ requestOf m t ⌝ }
+{
+    let k = thread_at(t);
+    let l = m.locals[k];
+    if is_busy(t, l) {
+        let o = l.op;
+        let e = record_at(o);
+        let r = record_or_none(o, m.records[e]);
+        let a = r.asked;
+        let current = m.current;
+        asks(t, l, a, current)
+    } else {
+        Request::Nothing
+    }
+}
+
+// The second half for a thread with an operation left, as `play` makes it.
+fn taken(m: Rest, t: ThreadId, heard: u32) -> Rest
+    ensures { λ r. ⌜ (isBusy m t ≡ true → r ≡ takenOf m t heard) ⌝ }
+{
+    let mut n = m;
+    let step = one_more(m.clock);
+    n.clock = step;
+    let k = thread_at(t);
+    let l = m.locals[k];
+    let o = l.op;
+    let seen = l.seen;
+    let e = record_at(o);
+    let r = record_or_none(o, m.records[e]);
+    let a = r.asked;
+    let q = slot_at(a.key);
+    let held = content_or_empty(a.key, m.slots[q]);
+    let current = m.current;
+    let x = asks(t, l, a, current);
+    let y = record_in(x);
+    let v = turn_of(t, step, m.threads, l, r, held, current, heard);
+    let g = snapshot_at(current);
+    let w = window_in(current, m.traces[g]);
+    n.records[e] = own_or_same(v, o, m.records[e]);
+    let f = record_at(v.raised);
+    n.records[f] = raised_or_same(v, step, w, n.records[f]);
+    n.slots[q] = slot_or_same(v, a.key, m.slots[q]);
+    n.traces[y] = trace_after(x, heard, step, seen, m.traces[y]);
+    n.current = current_by(x, current);
+    let stood = v.local;
+    n.locals[k] = stood;
+    n
+}
+
+// For a thread with none left.
+fn idled(m: Rest) -> Rest
+    ensures { λ r. ⌜ r ≡ idledOf m ⌝ }
+{
+    let mut n = m;
+    n.clock = one_more(m.clock);
+    n.idle = one_more(m.idle);
+    n
+}
+
+pub fn decided(m: Rest, t: ThreadId, heard: u32) -> Rest
+    ensures { λ r. ⌜ r ≡ decidedOf m t heard ⌝ }
+{
+    let k = thread_at(t);
+    let l = m.locals[k];
+    if is_busy(t, l) {
+        taken(m, t, heard)
+    } else {
+        idled(m)
+    }
+}
+
+// A whole schedule. The arrays stay in this function's frame, so each step is written out here: what the access is told is loaded, it
+// hears one number of the counters or of one record, the turn is taken by value, and what it gives is stored.
 pub fn play(machine: Machine, schedule: &[u8]) -> Machine
     ensures { λ r. ⌜ r ≡ runOf machine (now (schedule .entry)) ⌝ }
 {
     let calculator = machine.calculator;
+    let mut counters = calculator.counters;
     let mut table = calculator.snapshots;
     let mut m = rest_of(machine);
     let mut i = 0;
@@ -154,36 +218,32 @@ pub fn play(machine: Machine, schedule: &[u8]) -> Machine
             let a = r.asked;
             let q = slot_at(a.key);
             let held = content_or_empty(a.key, m.slots[q]);
-            let n = looks(l, a);
-            let h = snapshot_at(n);
-            let looked = snapshot_or_none(n, table[h]);
             let current = m.current;
-            let counters = m.counters;
-            let s = sees(t, l, a, counters, current, looked);
-            let v = turn_of(t, step, m.threads, l, r, held, s);
+            let x = asks(t, l, a, current);
+            let d = counter_in(x);
+            let y = record_in(x);
+            let heard = hears(x, counters[d], table[y]);
+            let v = turn_of(t, step, m.threads, l, r, held, current, heard);
             m.records[e] = own_or_same(v, o, m.records[e]);
             let stood = v.local;
             m.locals[k] = stood;
             // most accesses only read, and are done
-            if !was_quiet(v) {
-                let c = effect_of(v, held, current, seen);
+            if !v.quiet {
                 let g = snapshot_at(current);
-                let w = window_of(current, snapshot_or_none(current, table[g]));
-                let f = record_at(c.raised);
-                m.records[f] = raised_or_same(c, step, w, m.records[f]);
-                m.slots[q] = slot_or_same(c, a.key, m.slots[q]);
-                let y = snapshot_at(c.changed);
-                let x = exchange_or_none(c);
-                m.traces[y] = traced(x, looked, step, seen, m.traces[y]);
-                table[y] = exchanged(x, table[y]);
-                m.current = current_of(c, current);
-                m.counters = counters_of(c, counters);
+                let w = window_in(current, m.traces[g]);
+                let f = record_at(v.raised);
+                m.records[f] = raised_or_same(v, step, w, m.records[f]);
+                m.slots[q] = slot_or_same(v, a.key, m.slots[q]);
+                m.traces[y] = trace_after(x, heard, step, seen, m.traces[y]);
+                m.current = current_by(x, current);
+                counters[d] = pair_after(x, counters[d]);
+                table[y] = record_after(x, table[y]);
             }
         } else {
             m.idle = one_more(m.idle);
         }
     }
-    whole_of(m, table)
+    whole_of(m, counters, table)
 }
 
 // One step: the schedule of that thread alone.

@@ -1,4 +1,5 @@
 // What an access changes of its operation's record, of its thread and of its slot, part by part.
+use calculator::figure4::THREADS;
 use calculator::figure4::block_of;
 use calculator::figure4::one_more;
 use calculator::figure4::one_more_byte;
@@ -145,7 +146,7 @@ pub fn recorded(r: Record, step: u32, d: Deed, x: Next) -> Record
 }
 
 // The values that a thread keeps for its sum: none when it begins to sum, and one more with each cell.
-fn summed(seen: [Counts; 8], d: SizeDeed) -> [Counts; 8]
+fn summed(seen: [Counts; THREADS], d: SizeDeed) -> [Counts; THREADS]
     ensures { λ s. ⌜ s ≡ summedBy d seen ⌝ }
 {
     match d {
@@ -159,7 +160,7 @@ fn summed(seen: [Counts; 8], d: SizeDeed) -> [Counts; 8]
     }
 }
 
-fn seen_after(seen: [Counts; 8], d: Deed) -> [Counts; 8]
+fn seen_after(seen: [Counts; THREADS], d: Deed) -> [Counts; THREADS]
     ensures { λ s. ⌜ s ≡ seenBy d seen ⌝ }
 {
     match d {
@@ -173,7 +174,7 @@ fn seen_after(seen: [Counts; 8], d: Deed) -> [Counts; 8]
     }
 }
 
-fn local(p: Point, o: OpId, e: OpId, seen: [Counts; 8]) -> Local
+fn local(p: Point, o: OpId, e: OpId, seen: [Counts; THREADS]) -> Local
     ensures { λ s. ⌜ s ≡ record { point = p; op = o; end = e; seen = seen } ⌝ }
 {
     Local {

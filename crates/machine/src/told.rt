@@ -1,5 +1,4 @@
 // One access over the small parts that it is told of: nothing here is larger than a thread, a record of an operation or of a snapshot.
-use super::Effect;
 use super::Turn;
 use super::parts::held_after;
 use super::parts::raised_at;
@@ -7,16 +6,18 @@ use super::parts::raised_op;
 use super::parts::recorded;
 use super::parts::stood;
 use accesses::access;
-use accesses::asks;
-use accesses::changes;
-use accesses::looks_at_cell;
-use accesses::looks_at_snapshot;
-use accesses::raise_of;
+use accesses::request;
 use accesses::stands_at;
-use calculator::exchange::Exchange;
-use calculator::exchange::current_after;
-use calculator::figure4::count_at;
-use calculator::figure4::sight_of;
+use calculator::figure4::THREADS;
+use calculator::figure4::sight_by;
+use calculator::figure4::window_of;
+use calculator::request::Request;
+use calculator::request::counter_of;
+use calculator::request::heard_of;
+use calculator::request::pair_by;
+use calculator::request::record_by;
+use calculator::request::record_of;
+use calculator::request::trace_by;
 use figures::Asked;
 use figures::Call;
 use figures::Change;
@@ -25,67 +26,76 @@ use figures::Counts;
 use figures::Deed;
 use figures::Local;
 use figures::Look;
+use figures::Machine;
 use figures::Outcome;
 use figures::Point;
 use figures::Record;
-use figures::Sight;
 use figures::SizeDeed;
 use figures::Slot;
 use figures::Snapshot;
+use figures::Trace;
 use figures::UpdateDeed;
-use lending::no_snapshot;
-use lending::raised_block;
 use terms::OpId;
 use terms::SnapshotId;
 use terms::Target;
 use terms::ThreadId;
 ghost use mathlib.Core.Path.{_≡_};
 ghost use mathlib.Core.Bool.{cond, _&&_};
-ghost use Prim.Native.Nat.{_<_};
+ghost use Prim.Native.Nat.{_<_, suc};
 ghost use lib.Dec.{ltb};
 ghost use Rattle.figures.specs.declared.Content.the-variants.{Empty};
-ghost use Rattle.figures.specs.Figure3.{looksAtSnapshot};
+ghost use Rattle.figures.specs.Limits.{mostThreads, mostKeys, mostOperations};
 ghost use Rattle.figures.specs.Step.{noRecord, raisedAt, standsAt};
-ghost use Rattle.calculator.specs.declared.exchange.Exchange.the-variants.{Nothing};
-ghost use Rattle.calculator.specs.Exchanges.{absent, raisedIn, currentOf};
-ghost use Rattle.machine.specs.Parts.{seenFrom, turnOf, readsOnly, looksOnly, quiet, effectOf};
+ghost use Rattle.calculator.specs.Exchanges.{windowIn};
+ghost use Rattle.calculator.specs.Requests.{counterOf, recordOf, heardOf, pairBy, recordBy, traceBy};
+ghost use Rattle.accesses.specs.Requests.{requestAt};
+ghost use Rattle.machine.specs.Parts.{turnOf, readsOnly, looksOnly, quiet, thereOf};
+
+// The limits, as the code counts operations and snapshots, and how long its arrays are.
+const OPERATIONS: u8 = Machine::OPERATIONS as u8;
+
+const SNAPSHOTS: u8 = OPERATIONS + 1;
+
+const KEYS: usize = Machine::KEYS as usize;
+
+const RECORDS: usize = Machine::OPERATIONS + 1;
 
 // ---- A number that may lie beyond an array's end. A read there gives a default, a store changes nothing: the index is the number
 // itself or 0, and what is read or stored is chosen by value.
 
 pub fn thread_at(t: ThreadId) -> usize
-    ensures { λ r. ⌜ r ≡ cond (ltb (t .0) 8) (t .0) 0 ⌝ }
-    ensures { λ r. ⌜ r < 8 ⌝ }
+    ensures { λ r. ⌜ r ≡ cond (ltb (t .0) mostThreads) (t .0) 0 ⌝ }
+    ensures { λ r. ⌜ r < mostThreads ⌝ }
 {
     let k = t.0 as usize;
-    if k < 8 { k } else { 0 }
+    if k < THREADS { k } else { 0 }
 }
 
 pub fn slot_at(key: u8) -> usize
-    ensures { λ r. ⌜ r ≡ cond (ltb key 16) key 0 ⌝ }
-    ensures { λ r. ⌜ r < 16 ⌝ }
+    ensures { λ r. ⌜ r ≡ cond (ltb key mostKeys) key 0 ⌝ }
+    ensures { λ r. ⌜ r < mostKeys ⌝ }
 {
     let k = key as usize;
-    if k < 16 { k } else { 0 }
+    if k < KEYS { k } else { 0 }
 }
 
 pub fn record_at(o: OpId) -> usize
-    ensures { λ r. ⌜ r ≡ cond (ltb (o .0) 64) (o .0) 0 ⌝ }
-    ensures { λ r. ⌜ r < 64 ⌝ }
+    ensures { λ r. ⌜ r ≡ cond (ltb (o .0) mostOperations) (o .0) 0 ⌝ }
+    ensures { λ r. ⌜ r < mostOperations ⌝ }
 {
     let k = o.0 as usize;
-    if k < 64 { k } else { 0 }
+    if k < Machine::OPERATIONS { k } else { 0 }
 }
 
 pub fn snapshot_at(n: SnapshotId) -> usize
-    ensures { λ r. ⌜ r ≡ cond (ltb (n .0) 65) (n .0) 0 ⌝ }
-    ensures { λ r. ⌜ r < 65 ⌝ }
+    ensures { λ r. ⌜ r ≡ cond (ltb (n .0) (suc mostOperations)) (n .0) 0 ⌝ }
+    ensures { λ r. ⌜ r < suc mostOperations ⌝ }
 {
     let k = n.0 as usize;
-    if k < 65 { k } else { 0 }
+    if k < RECORDS { k } else { 0 }
 }
 
-fn no_record() -> Record
+pub fn no_record() -> Record
     ensures { λ r. ⌜ r ≡ noRecord ⌝ }
 {
     Record {
@@ -115,24 +125,24 @@ fn no_record() -> Record
 }
 
 pub fn record_or_none(o: OpId, r: Record) -> Record
-    ensures { λ s. ⌜ s ≡ cond (ltb (o .0) 64) r noRecord ⌝ }
+    ensures { λ s. ⌜ s ≡ cond (ltb (o .0) mostOperations) r noRecord ⌝ }
 {
-    if o.0 < 64 { r } else { no_record() }
+    if o.0 < OPERATIONS { r } else { no_record() }
 }
 
 // The operation's record after a turn, if there is such.
 pub fn own_or_same(v: Turn, o: OpId, same: Record) -> Record
-    ensures { λ s. ⌜ s ≡ cond (ltb (o .0) 64) (v .own) same ⌝ }
+    ensures { λ s. ⌜ s ≡ cond (ltb (o .0) mostOperations) (v .own) same ⌝ }
 {
     let own = v.own;
-    if o.0 < 64 { own } else { same }
+    if o.0 < OPERATIONS { own } else { same }
 }
 
 // The record of the operation that is raised, if there is such.
-pub fn raised_or_same(v: Effect, step: u32, w: SnapshotId, same: Record) -> Record
-    ensures { λ s. ⌜ s ≡ cond (ltb (v .raised .0) 64) (raisedAt step w same) same ⌝ }
+pub fn raised_or_same(v: Turn, step: u32, w: SnapshotId, same: Record) -> Record
+    ensures { λ s. ⌜ s ≡ cond (ltb (v .raised .0) mostOperations) (raisedAt step w same) same ⌝ }
 {
-    if v.raised.0 < 64 {
+    if v.raised.0 < OPERATIONS {
         raised_at(same, step, w)
     } else {
         same
@@ -140,36 +150,23 @@ pub fn raised_or_same(v: Effect, step: u32, w: SnapshotId, same: Record) -> Reco
 }
 
 pub fn content_or_empty(key: u8, s: Slot) -> Content
-    ensures { λ c. ⌜ c ≡ cond (ltb key 16) (s .content) Empty ⌝ }
+    ensures { λ c. ⌜ c ≡ cond (ltb key mostKeys) (s .content) Empty ⌝ }
 {
-    if key < 16 { s.content } else { Content::Empty }
-}
-
-pub fn slot_or_same(v: Effect, key: u8, same: Slot) -> Slot
-    ensures { λ s. ⌜ s ≡ cond (ltb key 16) (record { content = v .held }) same ⌝ }
-{
-    let held = v.held;
-    if key < 16 {
-        Slot { content: held }
+    if key < Machine::KEYS {
+        s.content
     } else {
-        same
+        Content::Empty
     }
 }
 
-pub fn snapshot_or_none(n: SnapshotId, s: Snapshot) -> Snapshot
-    ensures { λ r. ⌜ r ≡ cond (ltb (n .0) 65) s absent ⌝ }
+pub fn slot_or_same(v: Turn, key: u8, same: Slot) -> Slot
+    ensures { λ s. ⌜ s ≡ cond (ltb key mostKeys) (record { content = v .held }) same ⌝ }
 {
-    if n.0 < 65 { s } else { no_snapshot() }
-}
-
-pub fn exchange_or_none(v: Effect) -> Exchange
-    ensures { λ r. ⌜ r ≡ cond (ltb (v .changed .0) 65) (v .exchange) Nothing ⌝ }
-{
-    let x = v.exchange;
-    if v.changed.0 < 65 {
-        x
+    let held = v.held;
+    if key < Machine::KEYS {
+        Slot { content: held }
     } else {
-        Exchange::Nothing
+        same
     }
 }
 
@@ -177,9 +174,13 @@ pub fn exchange_or_none(v: Effect) -> Exchange
 
 // Whether thread t, which has this local state if it is there, has an operation left.
 pub fn is_busy(t: ThreadId, l: Local) -> bool
-    ensures { λ r. ⌜ r ≡ (ltb (t .0) 8 && ltb (l .op .0) (l .end .0)) ⌝ }
+    ensures { λ r. ⌜ r ≡ (ltb (t .0) mostThreads && ltb (l .op .0) (l .end .0)) ⌝ }
 {
-    if t.0 < 8 { l.op.0 < l.end.0 } else { false }
+    if t.0 < Machine::THREADS {
+        l.op.0 < l.end.0
+    } else {
+        false
+    }
 }
 
 fn point_of(l: Local, a: Asked) -> Point
@@ -190,29 +191,15 @@ fn point_of(l: Local, a: Asked) -> Point
     stands_at(at, call)
 }
 
-// The snapshot that the thread's next access looks at.
-pub fn looks(l: Local, a: Asked) -> SnapshotId
-    ensures { λ r. ⌜ r ≡ looksAtSnapshot (standsAt (l .point) (a .call)) ⌝ }
+// What the thread's access asks of the counters and of the table of snapshots, in an operation that asks this.
+pub fn asks(t: ThreadId, l: Local, a: Asked, current: SnapshotId) -> Request
+    ensures { λ r. ⌜ r ≡ requestAt (standsAt (l .point) (a .call)) t current (l .seen) ⌝ }
 {
-    looks_at_snapshot(point_of(l, a))
+    let seen = l.seen;
+    request(point_of(l, a), t, current, seen)
 }
 
-// What the access sees: a counter, which snapshot is current, and the record that it looks at.
-pub fn sees(
-    t: ThreadId,
-    l: Local,
-    a: Asked,
-    counters: [Counts; 8],
-    current: SnapshotId,
-    looked: Snapshot,
-) -> Sight
-    ensures { λ r. ⌜ r ≡ seenFrom t (standsAt (l .point) (a .call)) counters current looked ⌝ }
-{
-    let j = looks_at_cell(t, point_of(l, a));
-    sight_of(count_at(counters, j), current, looked, j)
-}
-
-// The access itself, by thread t in the operation of record r, on a slot that holds this.
+// The access itself, by thread t in the operation of record r, on a slot that holds this, after it heard a number.
 pub fn turn_of(
     t: ThreadId,
     step: u32,
@@ -220,24 +207,29 @@ pub fn turn_of(
     l: Local,
     r: Record,
     held: Content,
-    s: Sight,
+    current: SnapshotId,
+    heard: u32,
 ) -> Turn
-    ensures { λ v. ⌜ v ≡ turnOf t step threads l r held s ⌝ }
+    ensures { λ v. ⌜ v ≡ turnOf t step threads l r held current heard ⌝ }
 {
     let a = r.asked;
     let call = a.call;
     let seen = l.seen;
     let p = point_of(l, a);
+    let s = sight_by(heard, current);
     let v = access(p, t, l.op, call, threads, seen, s, held);
     let d = v.deed;
     let x = v.next;
     let own = recorded(r, step, d, x);
     let local = stood(l, d, x);
+    let after = held_after(held, d);
+    let raised = raised_op(d);
     Turn {
         own: own,
         local: local,
-        point: p,
-        deed: d,
+        held: after,
+        raised: raised,
+        quiet: is_quiet(d),
     }
 }
 
@@ -280,47 +272,85 @@ fn is_quiet(d: Deed) -> bool
     }
 }
 
-pub fn was_quiet(v: Turn) -> bool
-    ensures { λ r. ⌜ r ≡ quiet (v .deed) ⌝ }
+// ---- The machine's own counters and table. A request may name what is not there: it hears 0, and changes nothing.
+
+fn has_thread(t: ThreadId) -> bool
+    ensures { λ r. ⌜ r ≡ ltb (t .0) mostThreads ⌝ }
 {
-    let d = v.deed;
-    is_quiet(d)
+    t.0 < Machine::THREADS
 }
 
-// What else a turn changes, on a slot that held this, by a thread that had read the values `seen` for its sum.
-pub fn effect_of(v: Turn, held: Content, current: SnapshotId, seen: [Counts; 8]) -> Effect
-    ensures { λ r. ⌜ r ≡ effectOf v held current seen ⌝ }
+fn has_record(n: SnapshotId) -> bool
+    ensures { λ r. ⌜ r ≡ ltb (n .0) (suc mostOperations) ⌝ }
 {
-    let d = v.deed;
-    let p = v.point;
-    let raised = raised_op(d);
-    let after = held_after(held, d);
-    let raise = raise_of(p);
-    let exchange = asks(p, current, seen);
-    let changed = changes(p, current);
-    Effect {
-        raised: raised,
-        held: after,
-        raise: raise,
-        exchange: exchange,
-        changed: changed,
+    n.0 < SNAPSHOTS
+}
+
+fn is_there(x: Request) -> bool
+    ensures { λ r. ⌜ r ≡ thereOf x ⌝ }
+{
+    match x {
+        Request::Nothing => true,
+        Request::Count(j) => has_thread(j.thread),
+        Request::Raise(j, _) => has_thread(j.thread),
+        Request::Flag(n) => has_record(n),
+        Request::Value(n, _) => has_record(n),
+        Request::Exchanges(n, _) => has_record(n),
     }
 }
 
-// Which snapshot is current afterwards.
-pub fn current_of(v: Effect, current: SnapshotId) -> SnapshotId
-    ensures { λ r. ⌜ r ≡ currentOf (v .exchange) current ⌝ }
+// Where the counters and the record stand that a request names.
+pub fn counter_in(x: Request) -> usize
+    ensures { λ r. ⌜ r ≡ cond (ltb (counterOf x .0) mostThreads) (counterOf x .0) 0 ⌝ }
+    ensures { λ r. ⌜ r < mostThreads ⌝ }
 {
-    let x = v.exchange;
-    current_after(x, current)
+    thread_at(counter_of(x))
 }
 
-// The counters afterwards.
-pub fn counters_of(v: Effect, counters: [Counts; 8]) -> [Counts; 8]
-    ensures { λ r. ⌜ r ≡ raisedIn counters (v .raise .cell) (v .raise .target) ⌝ }
+pub fn record_in(x: Request) -> usize
+    ensures { λ r. ⌜ r ≡ cond (ltb (recordOf x .0) (suc mostOperations)) (recordOf x .0) 0 ⌝ }
+    ensures { λ r. ⌜ r < suc mostOperations ⌝ }
 {
-    let up = v.raise;
-    let j = up.cell;
-    let c = up.target;
-    raised_block(counters, j, c)
+    snapshot_at(record_of(x))
+}
+
+// The number that is heard of them.
+pub fn hears(x: Request, p: Counts, s: Snapshot) -> u32
+    ensures { λ r. ⌜ r ≡ cond (thereOf x) (heardOf x p s) 0 ⌝ }
+{
+    if is_there(x) { heard_of(x, p, s) } else { 0 }
+}
+
+// These counters and this record afterwards, and what the log needs of it.
+pub fn pair_after(x: Request, p: Counts) -> Counts
+    ensures { λ r. ⌜ r ≡ cond (thereOf x) (pairBy x p) p ⌝ }
+{
+    if is_there(x) { pair_by(x, p) } else { p }
+}
+
+pub fn record_after(x: Request, s: Snapshot) -> Snapshot
+    ensures { λ r. ⌜ r ≡ cond (thereOf x) (recordBy x s) s ⌝ }
+{
+    if is_there(x) { record_by(x, s) } else { s }
+}
+
+pub fn trace_after(x: Request, heard: u32, step: u32, seen: [Counts; THREADS], t: Trace) -> Trace
+    ensures { λ r. ⌜ r ≡ cond (thereOf x) (traceBy x heard step seen t) t ⌝ }
+{
+    if is_there(x) {
+        trace_by(x, heard, step, seen, t)
+    } else {
+        t
+    }
+}
+
+// The snapshot that is being collected: the current one, which has this trace if it is there.
+pub fn window_in(current: SnapshotId, t: Trace) -> SnapshotId
+    ensures { λ r. ⌜ r ≡ cond (ltb (current .0) (suc mostOperations)) (windowIn current (t .closed)) current ⌝ }
+{
+    if current.0 < SNAPSHOTS {
+        window_of(current, t.closed)
+    } else {
+        current
+    }
 }

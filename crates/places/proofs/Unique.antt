@@ -1,73 +1,72 @@
--- Two answers that meet the promise are equal, for each public function; of `write_log`, also two buffers after.
-use Prim.Native.Nat.{ℕ}
-use mathlib.Core.Path.{_≡_, sym, _∙_}
-use mathlib.Core.Bool.{Bool, _||_}
-use mathlib.Core.List.{List}
-use lib.ListN.{length}
-use lib.Seq.{sets}
-use Rattle.terms.specs.declared.OpId.{OpId}
-use Rattle.figures.specs.declared.Cell.{Cell}
-use Rattle.figures.specs.declared.Content.{Content}
-use Rattle.figures.specs.declared.Snapshot.{Snapshot}
-use Rattle.figures.specs.declared.Trace.{Trace}
-use Rattle.figures.specs.declared.Record.{Record}
-use Rattle.figures.specs.declared.Place.{Place}
-use Rattle.figures.specs.declared.Machine.{Machine}
-use Rattle.figures.specs.Step.{noRecord}
-use Rattle.figures.specs.Places.{returned, wasRaised, ownCell, afterStands, numberOf}
-use Rattle.places.specs.declared.rules.Window.{Window}
-use Rattle.places.specs.Parts.{windowOf, noWindow, deciderOf, sizeStandsBy, missedBy, updateStandsBy, finderStandsBy, standsBy}
-use Rattle.places.specs.Written.{numbersOf, writtenOf}
-use Rattle.calculator.proofs.Once.{once}
+-- Two answers that meet a function's own promise are equal, for each public function; of `write_log`, also what they leave in the lent
+-- buffer (`κs`: how long that is lent).
+use contract.Lifetimes.{Lfts}
+use denote.Ref.{now}
+use Rattle.terms.proofs.Once.{Once, Ends, once}
+use Rattle.places.proofs.rules.window_of.Reads as window-of
+use Rattle.places.proofs.rules.no_window.Reads as no-window
+use Rattle.places.proofs.rules.no_record.Reads as no-record
+use Rattle.places.proofs.rules.was_raised.Reads as was-raised
+use Rattle.places.proofs.rules.is_listed.Reads as is-listed
+use Rattle.places.proofs.rules.decider.Reads as decider
+use Rattle.places.proofs.rules.size_stands.Reads as size-stands
+use Rattle.places.proofs.rules.own_cell.Reads as own-cell
+use Rattle.places.proofs.rules.missed.Reads as missed
+use Rattle.places.proofs.rules.update_stands.Reads as update-stands
+use Rattle.places.proofs.rules.after_stands.Reads as after-stands
+use Rattle.places.proofs.rules.finder_stands.Reads as finder-stands
+use Rattle.places.proofs.rules.stands.Reads as stands
+use Rattle.places.proofs.rules.number_of.Reads as number-of
+use Rattle.places.proofs.writing.held.Reads as held
+use Rattle.places.proofs.writing.write_log.Reads as write-log
 
-pub window-of-once : (s : Snapshot) (t : Trace) (j : Cell) (w w′ : Window) → w ≡ windowOf s t j → w′ ≡ windowOf s t j → w ≡ w′
-window-of-once s t j w w′ = once
+pub window-of-once : Once (window-of.Post tt)
+window-of-once a r s e d p q = once p q
 
-pub no-window-once : (w w′ : Window) → w ≡ noWindow → w′ ≡ noWindow → w ≡ w′
-no-window-once w w′ = once
+pub no-window-once : Once (no-window.Post tt)
+no-window-once a r s e d p q = once p q
 
-pub no-record-once : (r r′ : Record) → r ≡ noRecord → r′ ≡ noRecord → r ≡ r′
-no-record-once r r′ = once
+pub no-record-once : Once (no-record.Post tt)
+no-record-once a r s e d p q = once p q
 
-pub after-stands-once : (p : Place) (read : ℕ) (q q′ : Place) → q ≡ afterStands p read → q′ ≡ afterStands p read → q ≡ q′
-after-stands-once p read q q′ = once
+pub was-raised-once : Once (was-raised.Post tt)
+was-raised-once a r s e d p q = once p q
 
-pub finder-stands-once : (found : Content) (p : Place) (read : ℕ) (q q′ : Place) → q ≡ finderStandsBy found p read → q′ ≡ finderStandsBy found p read → q ≡ q′
-finder-stands-once found p read q q′ = once
+pub is-listed-once : Once (is-listed.Post tt)
+is-listed-once a r s e d p q = once p q
 
-pub number-of-once : (p : Place) (n n′ : ℕ) → n ≡ numberOf p → n′ ≡ numberOf p → n ≡ n′
-number-of-once p n n′ = once
+pub decider-once : Once (decider.Post tt)
+decider-once a r s e d p q = once p q
 
-module _ (r : Record) where
-  pub was-raised-once : (b b′ : Bool) → b ≡ wasRaised r → b′ ≡ wasRaised r → b ≡ b′
-  was-raised-once b b′ = once
+pub size-stands-once : Once (size-stands.Post tt)
+size-stands-once a r s e d p q = once p q
 
-  pub is-listed-once : (b b′ : Bool) → b ≡ (returned r || wasRaised r) → b′ ≡ (returned r || wasRaised r) → b ≡ b′
-  is-listed-once b b′ = once
+pub own-cell-once : Once (own-cell.Post tt)
+own-cell-once a r s e d p q = once p q
 
-  pub decider-once : (o d d′ : OpId) → d ≡ deciderOf o r → d′ ≡ deciderOf o r → d ≡ d′
-  decider-once o d d′ = once
+pub missed-once : Once (missed.Post tt)
+missed-once a r s e d p q = once p q
 
-  pub own-cell-once : (j j′ : Cell) → j ≡ ownCell r → j′ ≡ ownCell r → j ≡ j′
-  own-cell-once j j′ = once
+pub update-stands-once : Once (update-stands.Post tt)
+update-stands-once a r s e d p q = once p q
 
-  pub size-stands-once : (closed : ℕ) (p p′ : Place) → p ≡ sizeStandsBy r closed → p′ ≡ sizeStandsBy r closed → p ≡ p′
-  size-stands-once closed p p′ = once
+pub after-stands-once : Once (after-stands.Post tt)
+after-stands-once a r s e d p q = once p q
 
-  pub missed-once : (w : Window) (b b′ : Bool) → b ≡ missedBy r w → b′ ≡ missedBy r w → b ≡ b′
-  missed-once w b b′ = once
+pub finder-stands-once : Once (finder-stands.Post tt)
+finder-stands-once a r s e d p q = once p q
 
-  pub update-stands-once : (w : Window) (p p′ : Place) → p ≡ updateStandsBy r w → p′ ≡ updateStandsBy r w → p ≡ p′
-  update-stands-once w p p′ = once
+pub stands-once : Once (stands.Post tt)
+stands-once a r s e d p q = once p q
 
-  pub stands-once : (p : Place) (closed : ℕ) (q q′ : Place) → q ≡ standsBy (r .asked .call) r p closed → q′ ≡ standsBy (r .asked .call) r p closed → q ≡ q′
-  stands-once p closed q q′ = once
+pub number-of-once : Once (number-of.Post tt)
+number-of-once a r s e d p q = once p q
 
-module _ (m : Machine) (operations : ℕ) (log : List ℕ) where
-  pub write-log-once : (r r′ : ℕ) → r ≡ length (writtenOf m operations (length log)) → r′ ≡ length (writtenOf m operations (length log)) → r ≡ r′
-  write-log-once r r′ = once
+pub held-once : Once (held.Post tt)
+held-once a r s e d p q = once p q
 
-  pub written-once : (after after′ : List ℕ) → after ≡ sets log 0 (numbersOf (writtenOf m operations (length log)))
-      → after′ ≡ sets log 0 (numbersOf (writtenOf m operations (length log)))
-      → after ≡ after′
-  written-once after after′ = once
+pub write-log-once : (κs : Lfts 1) → Once (write-log.Post κs)
+write-log-once κs a r s e d p q = once (p .0) (q .0)
+
+pub write-log-ends : (κs : Lfts 1) → Ends (λ e. now (e .1 .1 .1 .0)) (write-log.Post κs)
+write-log-ends κs a r s e d p q = once (p .1) (q .1)

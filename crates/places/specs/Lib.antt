@@ -1,3 +1,4 @@
 pub mod Written
+pub mod History
 pub mod Parts
 pub mod Table

@@ -9,21 +9,20 @@ use Rattle.figures.specs.declared.Content.{Content}
 use Rattle.figures.specs.declared.Content.the-variants.{Empty, Live, Marked}
 use Rattle.figures.specs.declared.Call.{Call}
 use Rattle.figures.specs.declared.Call.the-variants.{Insert, Delete, Contains, Size}
-use Rattle.figures.specs.declared.Snapshot.{Snapshot}
 use Rattle.figures.specs.declared.Trace.{Trace}
 use Rattle.figures.specs.declared.Record.{Record}
-use Rattle.figures.specs.declared.Place.{Place}
-use Rattle.figures.specs.Limits.{invalid}
+use Rattle.history.specs.declared.Place.{Place}
 use Rattle.figures.specs.Figure4.{countAt}
-use Rattle.figures.specs.Places.{wasRaised, place, afterStands}
+use Rattle.history.specs.Places.{place}
+use Rattle.figures.specs.Places.{wasRaised, afterStands}
 use Rattle.places.specs.declared.rules.Window.{Window}
 
 -- what an update reads of the snapshot that was being collected at its raising
-abbrev pub windowOf : Snapshot → Trace → Cell → Window
-windowOf s t j = record { size = s .size; closed = t .closed; seen = countAt (t .seen) j }
+abbrev pub windowBy : Trace → Cell → Window
+windowBy t j = record { closed = t .closed; fixed = t .fixed; seen = countAt (t .seen) j }
 
 abbrev pub noWindow : Window
-noWindow = record { size = 0; closed = 0; seen = 0 }
+noWindow = record { closed = 0; fixed = 0; seen = 0 }
 
 -- the operation whose update decides: its own if that was raised, else the one that was found (where none was found, any will do)
 abbrev pub foundOr : OpId → Content → OpId
@@ -40,7 +39,7 @@ sizeStandsBy r closed = place closed 0 (r .asked .thread .0) 0
 
 -- update: at its raising; the exception directly after that closing and its sizes
 abbrev pub missedBy : Record → Window → Bool
-missedBy r w = not (eqb (r .change .window .0) 0) && not (eqb (w .size) invalid) && ltb (w .seen) (r .change .target .0)
+missedBy r w = not (eqb (r .change .window .0) 0) && not (eqb (w .fixed) 0) && ltb (w .seen) (r .change .target .0)
 
 abbrev pub updateStandsBy : Record → Window → Place
 updateStandsBy r w = place (cond (missedBy r w) (w .closed) (r .change .raised)) 1 (r .change .raised) 0

@@ -8,12 +8,10 @@ use figures::Change;
 use figures::Content;
 use figures::Kind;
 use figures::Look;
-use figures::Machine;
 use figures::Outcome;
-use figures::Place;
 use figures::Record;
-use figures::Snapshot;
 use figures::Trace;
+use history::Place;
 use terms::OpId;
 use terms::SnapshotId;
 use terms::Target;
@@ -21,27 +19,29 @@ use terms::ThreadId;
 ghost use mathlib.Core.Path.{_≡_};
 ghost use mathlib.Core.Bool.{_||_};
 ghost use Rattle.figures.specs.Step.{noRecord};
-ghost use Rattle.figures.specs.Places.{returned, wasRaised, kindOf, ownCell, place, afterStands, numberOf};
-ghost use Rattle.places.specs.Parts.{windowOf, noWindow, deciderOf, sizeStandsBy, missedBy, updateStandsBy, finderStandsBy, setStandsBy, standsBy};
+ghost use Rattle.history.specs.Places.{place, numberOf};
+ghost use Rattle.figures.specs.Places.{returned, wasRaised, kindOf, ownCell, afterStands};
+ghost use Rattle.places.specs.Parts.{windowBy, noWindow, deciderOf, sizeStandsBy, missedBy};
+ghost use Rattle.places.specs.Parts.{updateStandsBy, finderStandsBy, setStandsBy, standsBy};
 
 // ---- The parts that are read of a machine. An operation, a snapshot or a thread that is not there gives zeros.
 
-// What an update reads of the snapshot that was being collected at its raising: the size, the step of the closing, and the value
-// that the winner read from the update's cell for its sum.
+// What an update reads of the snapshot that was being collected at its raising: the steps of its closing and of its fixing (0: not
+// yet), and the value that its winner read from the update's cell for its sum.
 pub struct Window {
-    pub size: u32,
     pub closed: u32,
+    pub fixed: u32,
     pub seen: u32,
 }
 
-pub fn window_of(s: Snapshot, t: Trace, j: Cell) -> Window
-    ensures { λ w. ⌜ w ≡ windowOf s t j ⌝ }
+pub fn window_of(t: Trace, j: Cell) -> Window
+    ensures { λ w. ⌜ w ≡ windowBy t j ⌝ }
 {
     let b = t.seen;
     let seen = count_at(b, j);
     Window {
-        size: s.size,
         closed: t.closed,
+        fixed: t.fixed,
         seen: seen,
     }
 }
@@ -50,8 +50,8 @@ pub fn no_window() -> Window
     ensures { λ w. ⌜ w ≡ noWindow ⌝ }
 {
     Window {
-        size: 0,
         closed: 0,
+        fixed: 0,
         seen: 0,
     }
 }
@@ -171,7 +171,7 @@ pub fn missed(r: Record, w: Window) -> bool
     if s.0 == 0 {
         return false;
     }
-    if w.size == Machine::INVALID {
+    if w.fixed == 0 {
         return false;
     }
     w.seen < u.target.0

@@ -5,17 +5,18 @@ use mathlib.Core.Logic.{_≢_}
 use mathlib.Core.List.{List}
 use native.Mathlib.Omega.{arith}
 use lib.ListN.{length, getD, take}
-use Rattle.figures.specs.Demand.{Demand}
+use Rattle.history.specs.Demand.{Demand}
+use Rattle.figures.specs.Places.{courseOf}
 use Rattle.runfile.specs.Rows.{firstBad, sumTo, listFrom}
 use Rattle.runfile.specs.Read.{readOf}
 use Rattle.play.specs.Run.{machineOf}
 use Rattle.play.specs.Worked.{caseA, caseB, caseC}
 use Rattle.play.proofs.Accepted.{demand-held}
 
--- A: its file is accepted, so its log meets demand 3, with two threads and three operations
-pub a-meets : Demand 2 3 (machineOf (caseA .file))
+-- A: its file is accepted, so its log of three operations meets demand 3
+pub a-meets : Demand 3 (courseOf (machineOf (caseA .file)))
 unfolding readOf firstBad sumTo listFrom
-a-meets = demand-held (caseA .file) refl
+a-meets = demand-held (caseA .file) refl .demand
 
 -- B is C's schedule and more, and B's log does not begin with C's
 pub b-begins-otherwise : take (length (caseC .back .log)) (caseB .back .log) ≢ caseC .back .log

@@ -4,3 +4,4 @@ pub mod Results
 pub mod Decided
 pub mod Unique
 pub mod Instances
+pub mod Table

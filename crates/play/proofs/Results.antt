@@ -9,21 +9,21 @@ use lib.Seq.{sets, drop-cons, drop-length, getD-take, take-length}
 use Rattle.figures.specs.declared.Outcome.{Outcome}
 use Rattle.figures.specs.declared.Record.{Record}
 use Rattle.figures.specs.Step.{noRecord}
-use Rattle.play.specs.Run.{foursOf}
+use Rattle.play.specs.Run.{perOperation, foursOf}
 
 abbrev pub stored : List ℕ → ℕ → Outcome → List ℕ
 stored l at w = set (set (set (set l at (w .answer)) (at + 1) (w .first)) (at + 2) (w .last)) (at + 3) (w .own)
 
 pub fours-on : (rs : List Record) (l : List ℕ) {n i : ℕ} → i < n → n ≤ length rs
-    → sets l (4 * i) (foursOf (drop i (take n rs)))
-    ≡ sets (stored l (4 * i) (getD rs i noRecord .outcome)) (4 * (i + 1)) (foursOf (drop (i + 1) (take n rs)))
+    → sets l (perOperation * i) (foursOf (drop i (take n rs)))
+    ≡ sets (stored l (perOperation * i) (getD rs i noRecord .outcome)) (perOperation * (i + 1)) (foursOf (drop (i + 1) (take n rs)))
 unfolding foursOf
 fours-on rs l {n} {i} h k =
     let e : i < length (take n rs) = simp length-take (omega arith) in
-    let four : 4 * (i + 1) ≡ suc (suc (suc (suc (4 * i)))) = omega arith in
-    rw (four, add-one (4 * i), add-two (4 * i), add-three (4 * i), add-one i, drop-cons (take n rs) i noRecord e, getD-take n rs i noRecord h)
+    let four : perOperation * (i + 1) ≡ suc (suc (suc (suc (perOperation * i)))) = omega arith in
+    rw (four, add-one (perOperation * i), add-two (perOperation * i), add-three (perOperation * i), add-one i, drop-cons (take n rs) i noRecord e, getD-take n rs i noRecord h)
 
-pub fours-end : (rs : List Record) (l : List ℕ) {n i : ℕ} → i ≡ n → n ≤ length rs → sets l (4 * i) (foursOf (drop i (take n rs))) ≡ l
+pub fours-end : (rs : List Record) (l : List ℕ) {n i : ℕ} → i ≡ n → n ≤ length rs → sets l (perOperation * i) (foursOf (drop i (take n rs))) ≡ l
 unfolding foursOf
 fours-end rs l {n} {i} h k =
     let e : i ≡ length (take n rs) = simp length-take (omega arith) in

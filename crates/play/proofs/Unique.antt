@@ -1,37 +1,31 @@
--- Two answers that meet a promise are equal, and so are the buffers afterwards: of `run`, of `hand_back` and of `lacks_room`.
-use mathlib.Core.Path.{_≡_, sym, _∙_}
-use mathlib.Core.List.{List}
-use Prim.Native.Nat.{ℕ}
-use mathlib.Core.Bool.{Bool}
-use lib.ListN.{take}
-use lib.Seq.{sets}
-use Rattle.figures.specs.declared.Machine.{Machine}
-use Rattle.figures.specs.Places.{logOf}
-use Rattle.places.specs.Written.{numbersOf}
-use Rattle.play.specs.declared.Told.{Told}
-use Rattle.play.specs.Run.{toldOf, resultsOf, entriesOf, numberOf, when, foursOf, lacks, lackNumber, handedTold}
-use Rattle.calculator.proofs.Once.{once}
+-- Two answers that meet a function's own promise are equal, and so is what they leave in the lent buffers (`κs`: how long those are
+-- lent): of `run`, of `hand_back` and of `lacks_room`.
+use contract.Lifetimes.{Lfts}
+use denote.Ref.{now}
+use Rattle.terms.proofs.Once.{Once, Ends, once}
+use Rattle.play.proofs.run.Reads as run
+use Rattle.play.proofs.hand_back.Reads as hand-back
+use Rattle.play.proofs.lacks_room.Reads as lacks-room
 
-module _ (f : List ℕ) (results log : ℕ) where
-  pub run-once : {r s : Told} → r ≡ toldOf f results log → s ≡ toldOf f results log → r ≡ s
-  run-once = once
+pub lacks-room-once : Once (lacks-room.Post tt)
+lacks-room-once a r s e d p q = once p q
 
-  pub results-once : (l : List ℕ) {r s : List ℕ} → r ≡ sets l 0 (when (numberOf f results log) (resultsOf f)) → s ≡ sets l 0 (when (numberOf f results log) (resultsOf f)) → r ≡ s
-  results-once l = once
+module _ (κs : Lfts 2) where
+  pub hand-back-once : Once (hand-back.Post κs)
+  hand-back-once a r s e d p q = once (p .0) (q .0)
 
-  pub log-once : (l : List ℕ) {r s : List ℕ} → r ≡ sets l 0 (when (numberOf f results log) (entriesOf f)) → s ≡ sets l 0 (when (numberOf f results log) (entriesOf f)) → r ≡ s
-  log-once l = once
+  pub hand-back-results : Ends (λ e. now (e .1 .1 .0)) (hand-back.Post κs)
+  hand-back-results a r s e d p q = once (p .1 .0) (q .1 .0)
 
-module _ (n results log : ℕ) where
-  pub lacks-room-once : {r s : Bool} → r ≡ lacks n results log → s ≡ lacks n results log → r ≡ s
-  lacks-room-once = once
+  pub hand-back-log : Ends (λ e. now (e .1 .1 .1 .0)) (hand-back.Post κs)
+  hand-back-log a r s e d p q = once (p .1 .1) (q .1 .1)
 
-  module _ (m : Machine) where
-    pub hand-back-once : {r s : Told} → r ≡ handedTold m n results log → s ≡ handedTold m n results log → r ≡ s
-    hand-back-once = once
+module _ (κs : Lfts 3) where
+  pub run-once : Once (run.Post κs)
+  run-once a r s e d p q = once (p .0) (q .0)
 
-    pub handed-results-once : (l : List ℕ) {r s : List ℕ} → r ≡ sets l 0 (when (lackNumber n results log) (foursOf (take n (m .records)))) → s ≡ sets l 0 (when (lackNumber n results log) (foursOf (take n (m .records)))) → r ≡ s
-    handed-results-once l = once
+  pub run-results : Ends (λ e. now (e .1 .0)) (run.Post κs)
+  run-results a r s e d p q = once (p .1 .0) (q .1 .0)
 
-    pub handed-log-once : (l : List ℕ) {r s : List ℕ} → r ≡ sets l 0 (when (lackNumber n results log) (numbersOf (logOf m n))) → s ≡ sets l 0 (when (lackNumber n results log) (numbersOf (logOf m n))) → r ≡ s
-    handed-log-once l = once
+  pub run-log : Ends (λ e. now (e .1 .1 .0)) (run.Post κs)
+  run-log a r s e d p q = once (p .1 .1 .0) (q .1 .1 .0)

@@ -3,7 +3,8 @@ use mathlib.Core.Path.{_≡_, refl}
 use mathlib.Core.List.{map}
 use Rattle.figures.specs.Start.{startOf, recordsOf, localsOf, ownerOf}
 use Rattle.figures.specs.Step.{moveOf, accessed, stepOf, runOf}
-use Rattle.figures.specs.Places.{placeOf, orderOf}
+use Rattle.figures.specs.Places.{placeOf}
+use Rattle.history.specs.Courses.{orderOf}
 use Rattle.history.specs.Order.{logFrom, leastAmong, nearer, above, closer}
 use Rattle.runfile.specs.Rows.{firstBad, sumTo, listFrom}
 use Rattle.runfile.specs.Layout.{entries, fileOf}

@@ -7,11 +7,10 @@ use lib.Dec.{eqb, ltb}
 use Rattle.figures.specs.declared.Outcome.{Outcome}
 use Rattle.figures.specs.declared.Record.{Record}
 use Rattle.figures.specs.declared.Machine.{Machine}
-use Rattle.figures.specs.Limits.{mostOperations}
 use Rattle.figures.specs.Start.{startOf}
 use Rattle.figures.specs.Step.{runOf}
 use Rattle.figures.specs.Places.{logOf}
-use Rattle.places.specs.Written.{numbersOf}
+use Rattle.places.specs.Written.{perEntry, numbersOf, heldOf}
 use Rattle.runfile.specs.declared.Reading.{Reading}
 use Rattle.runfile.specs.Read.{readOf}
 use Rattle.play.specs.declared.Told.{Told}
@@ -32,7 +31,10 @@ machineOf f =
 abbrev pub countOf : List ℕ → ℕ
 countOf f = readOf f .operations
 
--- four numbers per operation: answer, first step, last step, own steps
+-- numbers per operation: answer, first step, last step, own steps
+abbrev pub perOperation : ℕ
+perOperation = 4
+
 unfoldable pub foursOf : List Record → List ℕ
 foursOf [] = []
 foursOf (r ∷ rs) =
@@ -45,9 +47,12 @@ resultsOf f = foursOf (take (countOf f) (machineOf f .records))
 abbrev pub entriesOf : List ℕ → List ℕ
 entriesOf f = numbersOf (logOf (machineOf f) (countOf f))
 
--- refusal 11: a lent output is too small
+-- refusal 11: a lent output is too small for n operations; for those of a file
+abbrev pub tooSmallFor : ℕ → ℕ → ℕ → Bool
+tooSmallFor n results log = ltb results (perOperation * n) || ltb log (perEntry * n)
+
 abbrev pub tooSmall : List ℕ → ℕ → ℕ → Bool
-tooSmall f results log = ltb results (4 * countOf f) || ltb log (2 * countOf f)
+tooSmall f results log = tooSmallFor (countOf f) results log
 
 -- the lowest number that applies, 0 if none does
 abbrev pub numberOf : List ℕ → ℕ → ℕ → ℕ
@@ -80,14 +85,13 @@ toldOf f results log =
 abbrev pub when : {A : Type 0} → ℕ → List A → List A
 when number values = cond (eqb number 0) values []
 
--- ---- What any machine hands back of its first n operations, with so much room for results and for the log.
+-- ---- What any machine hands back of n operations, as far as it holds them, with so much room for results and for the log.
 
--- refusal 11: more operations than a run can have, or a buffer that has not 4 numbers per operation (for results) or 2 (for the log)
 abbrev pub lacks : ℕ → ℕ → ℕ → Bool
-lacks n results log = ltb mostOperations n || (ltb results (4 * n) || ltb log (2 * n))
+lacks n results log = tooSmallFor (heldOf n) results log
 
 abbrev pub lackNumber : ℕ → ℕ → ℕ → ℕ
 lackNumber n results log = cond (lacks n results log) 11 0
 
 abbrev pub handedTold : Machine → ℕ → ℕ → ℕ → Told
-handedTold m n results log = cond (lacks n results log) (refused 11 0) (tells m n)
+handedTold m n results log = cond (lacks n results log) (refused 11 0) (tells m (heldOf n))

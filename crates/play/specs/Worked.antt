@@ -1,11 +1,12 @@
 -- Document 01's runs worked by hand, A to I, from the file's bytes on: what the run hands back.
-use Prim.Native.Nat.{ℕ}
+use Prim.Native.Nat.{ℕ, _*_}
 use mathlib.Core.List.{List, [], _∷_, _++_}
 use lib.ListN.{replicate}
-use Rattle.figures.specs.Limits.{invalid}
+use Rattle.figures.specs.Limits.{mostOperations, invalid}
 use Rattle.runfile.specs.Layout.{fileOf}
+use Rattle.places.specs.Written.{perEntry}
 use Rattle.play.specs.declared.Told.{Told}
-use Rattle.play.specs.Run.{toldOf, resultsOf, entriesOf}
+use Rattle.play.specs.Run.{perOperation, toldOf, resultsOf, entriesOf}
 
 -- a thread that steps so often
 pub record Stretch : Type 0 where
@@ -34,9 +35,14 @@ handed idle snapshots entries results log =
       log = log;
     }
 
--- with room for 64 operations
+-- with room for as many operations as there can be
 unfoldable pub handedBack : List ℕ → Handed
-handedBack f = record { told = toldOf f 256 128; results = resultsOf f; log = entriesOf f }
+handedBack f =
+    record {
+      told = toldOf f (perOperation * mostOperations) (perEntry * mostOperations);
+      results = resultsOf f;
+      log = entriesOf f;
+    }
 
 pub record Row : Type 0 where
   pub file : List ℕ

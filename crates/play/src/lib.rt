@@ -1,16 +1,29 @@
 // A run handed back: a file is read, played and told. What it must yield is defined in specs/Run.antt.
 use figures::Machine;
 use figures::Record;
+use machine::Rest;
+use machine::rest_of;
+use places::writing::PER_ENTRY;
+use places::writing::held;
+use places::writing::write_log;
 use runfile::Reading;
+use terms::SnapshotId;
 ghost use mathlib.Core.Path.{_≡_};
+ghost use mathlib.Core.List.{[]};
 ghost use Prim.Native.Nat.{_*_, _≤_};
 ghost use lib.ListN.{length, take};
 ghost use lib.Seq.{sets};
-ghost use Rattle.figures.specs.Demand.{Demand};
-ghost use Rattle.runfile.specs.Read.{readOf};
+ghost use Rattle.figures.specs.Limits.{mostOperations};
 ghost use Rattle.figures.specs.Places.{logOf};
-ghost use Rattle.places.specs.Written.{numbersOf};
-ghost use Rattle.play.specs.Run.{machineOf, countOf, foursOf, resultsOf, entriesOf, lacks, lackNumber, handedTold, numberOf, refused, toldOf, when};
+ghost use Rattle.runfile.specs.Read.{readOf};
+ghost use Rattle.machine.specs.Parts.{wholeOf};
+ghost use Rattle.places.specs.Written.{numbersOf, heldOf};
+ghost use Rattle.play.specs.Run.{machineOf, perOperation, foursOf, resultsOf, entriesOf};
+ghost use Rattle.play.specs.Run.{lacks, lackNumber, handedTold, numberOf, refused, toldOf, when};
+ghost use Rattle.play.specs.Meets.{Meets};
+
+// Numbers per operation: answer, first step, last step, own steps.
+pub const PER_OPERATION: usize = 4;
 
 // Number 0 where the run was played: log entries, idle steps, snapshots announced. Else the refusal's number and place, and
 // every other number 0.
@@ -35,16 +48,15 @@ fn refusal(number: u32, place: usize) -> Told
     }
 }
 
-// Four numbers per operation: answer, first step, last step, own steps.
-fn write_results(records: [Record; 64], operations: usize, results: &mut [u32])
-    requires { ⌜ (operations ≤ 64) × (4 * operations ≤ length (now results)) ⌝ }
+fn write_results(records: [Record; Machine::OPERATIONS], operations: usize, results: &mut [u32])
+    requires { ⌜ (operations ≤ mostOperations) × (perOperation * operations ≤ length (now results)) ⌝ }
     ensures { λ r. ⌜ now (results .exit) ≡ sets (now (results .entry)) 0 (foursOf (take operations records)) ⌝ }
 {
     let mut i: usize = 0;
     while i < operations {
         let r = records[i];
         let w = r.outcome;
-        let at = 4 * i;
+        let at = PER_OPERATION * i;
         results[at] = w.answer;
         results[at + 1] = w.first;
         results[at + 2] = w.last;
@@ -53,40 +65,47 @@ fn write_results(records: [Record; 64], operations: usize, results: &mut [u32])
     }
 }
 
-// Refusal 11: more operations than a run can have, or not four numbers of room per operation for results and two for the log.
+// Snapshots announced: record 0 is not counted.
+fn announced(n: SnapshotId) -> u32
+    ensures { λ r. ⌜ r ≡ n .0 ⌝ }
+{
+    n.0 as u32
+}
+
+// Refusal 11: results or log have not room for so many operations, as far as a machine holds them.
 pub fn lacks_room(operations: usize, results: usize, log: usize) -> bool
     ensures { λ r. ⌜ r ≡ lacks operations results log ⌝ }
 {
-    if Machine::OPERATIONS < operations {
+    let n = held(operations);
+    if results < PER_OPERATION * n {
         return true;
     }
-    if results < 4 * operations {
-        return true;
-    }
-    log < 2 * operations
+    log < PER_ENTRY * n
 }
 
-// What a machine has done with so many operations: four numbers per operation, two per log entry. Where room is lacking, nothing is
+// What a machine has done with so many operations; neither its counters nor its snapshots are read. Where room is lacking, nothing is
 // written.
-pub fn hand_back(m: Machine, operations: usize, results: &mut [u32], log: &mut [u32]) -> Told
-    ensures { λ r. ⌜ r ≡ handedTold m operations (length (now (results .entry))) (length (now (log .entry))) ⌝ }
-    ensures { λ r. ⌜ now (results .exit) ≡ sets (now (results .entry)) 0 (when (lackNumber operations (length (now (results .entry))) (length (now (log .entry)))) (foursOf (take operations (m .records)))) ⌝ }
-    ensures { λ r. ⌜ now (log .exit) ≡ sets (now (log .entry)) 0 (when (lackNumber operations (length (now (results .entry))) (length (now (log .entry)))) (numbersOf (logOf m operations))) ⌝ }
+pub fn hand_back(m: Rest, operations: usize, results: &mut [u32], log: &mut [u32]) -> Told
+    ensures { λ r. ⌜ r ≡ handedTold (wholeOf m [] []) operations (length (now (results .entry))) (length (now (log .entry))) ⌝ }
+    ensures { λ r. ⌜ now (results .exit) ≡ sets (now (results .entry)) 0
+        (when (lackNumber operations (length (now (results .entry))) (length (now (log .entry)))) (foursOf (take (heldOf operations) (m .records)))) ⌝ }
+    ensures { λ r. ⌜ now (log .exit) ≡ sets (now (log .entry)) 0
+        (when (lackNumber operations (length (now (results .entry))) (length (now (log .entry)))) (numbersOf (logOf (wholeOf m [] []) (heldOf operations)))) ⌝ }
 {
     if lacks_room(operations, results.len(), log.len()) {
         return refusal(11, 0);
     }
     let records = m.records;
-    write_results(records, operations, results);
-    let entries = places::writing::write_log(m, operations, log);
-    let c = m.calculator;
-    let current = c.current;
+    let traces = m.traces;
+    write_results(records, held(operations), results);
+    let logged = write_log(records, traces, operations, log);
+    let current = m.current;
     Told {
         number: 0,
         place: 0,
-        entries,
+        entries: logged.entries,
         idle: m.idle,
-        snapshots: current.0 as u32,
+        snapshots: announced(current),
     }
 }
 
@@ -102,13 +121,15 @@ fn played(file: &[u8], r: Reading) -> Machine
     machine::play(m, &file[schedule..])
 }
 
-// Reads a file, plays it and hands it back: four numbers per operation, two per log entry. A refusal leaves both buffers as they
-// were. What is handed back meets demand 3.
+// Reads a file, plays it and hands it back. A refusal leaves both buffers as they were. What is handed back meets demand 3, and its
+// log is in order.
 pub fn run(file: &[u8], results: &mut [u32], log: &mut [u32]) -> Told
     ensures { λ r. ⌜ r ≡ toldOf (now (file .entry)) (length (now (results .entry))) (length (now (log .entry))) ⌝ }
-    ensures { λ r. ⌜ now (results .exit) ≡ sets (now (results .entry)) 0 (when (numberOf (now (file .entry)) (length (now (results .entry))) (length (now (log .entry)))) (resultsOf (now (file .entry)))) ⌝ }
-    ensures { λ r. ⌜ now (log .exit) ≡ sets (now (log .entry)) 0 (when (numberOf (now (file .entry)) (length (now (results .entry))) (length (now (log .entry)))) (entriesOf (now (file .entry)))) ⌝ }
-    ensures { λ r. ⌜ (r .number ≡ 0 → Demand (readOf (now (file .entry)) .threads) (countOf (now (file .entry))) (machineOf (now (file .entry)))) ⌝ }
+    ensures { λ r. ⌜ now (results .exit) ≡ sets (now (results .entry)) 0
+        (when (numberOf (now (file .entry)) (length (now (results .entry))) (length (now (log .entry)))) (resultsOf (now (file .entry)))) ⌝ }
+    ensures { λ r. ⌜ now (log .exit) ≡ sets (now (log .entry)) 0
+        (when (numberOf (now (file .entry)) (length (now (results .entry))) (length (now (log .entry)))) (entriesOf (now (file .entry)))) ⌝ }
+    ensures { λ r. ⌜ (r .number ≡ 0 → Meets (now (file .entry))) ⌝ }
 {
     let r = runfile::read(file);
     if r.number != 0 {
@@ -118,5 +139,5 @@ pub fn run(file: &[u8], results: &mut [u32], log: &mut [u32]) -> Told
     if lacks_room(n, results.len(), log.len()) {
         return refusal(11, 0);
     }
-    hand_back(played(file, r), n, results, log)
+    hand_back(rest_of(played(file, r)), n, results, log)
 }

@@ -2,8 +2,8 @@
 -- that agree as far as one byte past it are refused alike.
 use Prim.Native.Nat.{ℕ, _+_, _-_, _<_, _≤_}
 use mathlib.Core.Path.{_≡_, refl, sym, ap, _∙_}
-use mathlib.Core.Bool.{Bool, true, false, not}
-use mathlib.Core.List.{List, _∷_}
+use mathlib.Core.Bool.{Bool, true, false, not, cond}
+use mathlib.Core.List.{List, _∷_, _++_}
 use native.Mathlib.Omega.{arith}
 use native.Mathlib.Decide.{decLt}
 use lib.ListN.{length, getD, take, drop}
@@ -11,9 +11,12 @@ use lib.Seq.{getD-take, length-take-le, take-take, take-all}
 use lib.Dec.{ltb, eqb}
 use borrow.Author.Tests.{le-ltb, ltb-false, ne-eqb, eqb-true}
 use Rattle.figures.specs.Limits.{mostThreads, mostKeys, mostOperations, mostSteps}
-use Rattle.runfile.specs.Rows.{pick, Row, row, decide, outside, firstBad, sumTo}
+use Rattle.runfile.specs.declared.Refusal.{Refusal}
+use Rattle.runfile.specs.declared.Refusal.the-variants.{NoHead, Threads, Keys, TableCutShort, Offset, TooManyOperations, TooManySteps, Length}
+use Rattle.runfile.specs.Refusals.{numberOf}
+use Rattle.runfile.specs.Rows.{Row, row, decide, outside, firstBad, sumTo}
 use Rattle.runfile.specs.Layout.{wordAt, entryAt, bodyAt, countIn}
-use Rattle.runfile.specs.Read.{threadsIn, keysIn, operationsIn, stepsIn, scheduleIn, offsetRight, wrongEntry, rows, tableRows, refused, accepted, readOf}
+use Rattle.runfile.specs.Read.{threadsIn, keysIn, operationsIn, stepsIn, scheduleIn, offsetRight, wrongEntry, rows, tableRows, bodyRows, refused, accepted, readOf}
 use Rattle.runfile.specs.Contents.{longest}
 use Rattle.runfile.proofs.Laws.{true-false, inside, first-same, first-before, sum-same}
 use Rattle.runfile.proofs.Accepts.{accepts}
@@ -26,13 +29,17 @@ accepted-short f z =
 pub long-refused : (f : List ℕ) → longest < length f → readOf f .number ≡ 0 → ⊥
 long-refused f h z = omega (arith, accepted-short f z)
 
+-- the rows after the head
+abbrev restRows : List ℕ → List Row
+restRows f = tableRows f ++ bodyRows f
+
 -- two tables whose first rows are alike decide alike, where the rest do once those have let pass
-alike : {A : Type 0} (refuse : ℕ → ℕ → A) (a a′ : A) (n : ℕ) {b b′ : Bool} {p p′ : ℕ} (rs rs′ : List Row) → b ≡ b′ → p ≡ p′
+alike : {A : Type 0} (refuse : ℕ → ℕ → A) (a a′ : A) (r : Refusal) {b b′ : Bool} {p p′ : ℕ} (rs rs′ : List Row) → b ≡ b′ → p ≡ p′
     → (b ≡ false → decide refuse a rs ≡ decide refuse a′ rs′)
-    → decide refuse a (row n b p ∷ rs) ≡ decide refuse a′ (row n b′ p′ ∷ rs′)
-alike refuse a a′ n {b} {p = p} rs rs′ e e′ rest = rw (← e, ← e′) (go b refl)
+    → decide refuse a (row r b p ∷ rs) ≡ decide refuse a′ (row r b′ p′ ∷ rs′)
+alike refuse a a′ r {b} {p = p} rs rs′ e e′ rest = rw (← e, ← e′) (go b refl)
   where
-    go : (c : Bool) → b ≡ c → pick c (refuse n p) (decide refuse a rs) ≡ pick c (refuse n p) (decide refuse a′ rs′)
+    go : (c : Bool) → b ≡ c → cond c (refuse (numberOf r) p) (decide refuse a rs) ≡ cond c (refuse (numberOf r) p) (decide refuse a′ rs′)
     go true q = refl
     go false q = rest q
 
@@ -86,33 +93,33 @@ module _ (f g : List ℕ) (long-f : longest < length f) (long-g : longest < leng
     entries-tested : ltb (wrongEntry f) (threadsIn f + 1) ≡ ltb (wrongEntry g) (threadsIn g + 1)
     entries-tested = cc (wrong-same, threads-same)
 
-    table-same : decide refused (accepted f) (tableRows f) ≡ decide refused (accepted g) (tableRows g)
+    table-same : decide refused (accepted f) (restRows f) ≡ decide refused (accepted g) (restRows g)
     table-same =
-        alike refused (accepted f) (accepted g) 5 (drop 1 (tableRows f)) (drop 1 (tableRows g)) entries-tested (ap entryAt wrong-same)
+        alike refused (accepted f) (accepted g) Offset (drop 1 (restRows f)) (drop 1 (restRows g)) entries-tested (ap entryAt wrong-same)
         (λ past5.
-        alike refused (accepted f) (accepted g) 6 (drop 2 (tableRows f)) (drop 2 (tableRows g)) (ap (ltb mostOperations) operations-same) refl
+        alike refused (accepted f) (accepted g) TooManyOperations (drop 2 (restRows f)) (drop 2 (restRows g)) (ap (ltb mostOperations) operations-same) refl
         (λ past6.
-        alike refused (accepted f) (accepted g) 7 (drop 3 (tableRows f)) (drop 3 (tableRows g)) (ap (ltb mostSteps) steps-same) refl
+        alike refused (accepted f) (accepted g) TooManySteps (drop 3 (restRows f)) (drop 3 (restRows g)) (ap (ltb mostSteps) steps-same) refl
         (λ past7.
         let f-wrong = ends-wrong f long-f few past5 past6 past7 in
         let g-wrong =
         ends-wrong g long-g (rw threads-same at few) (sym entries-tested ∙ past5) (sym (ap (ltb mostOperations) operations-same) ∙ past6)
         (sym (ap (ltb mostSteps) steps-same) ∙ past7) in
-        alike refused (accepted f) (accepted g) 8 (drop 4 (tableRows f)) (drop 4 (tableRows g)) (f-wrong ∙ sym g-wrong) refl
+        alike refused (accepted f) (accepted g) Length (drop 4 (restRows f)) (drop 4 (restRows g)) (f-wrong ∙ sym g-wrong) refl
         (λ past8. absurd (true-false (sym f-wrong ∙ past8))))))
 
   -- so a reader that keeps the first `longest + 1` bytes of a longer input tells what its whole contents have
   pub long-same : readOf f ≡ readOf g
   unfolding readOf
   long-same =
-      alike refused (accepted f) (accepted g) 1 (drop 1 (rows f)) (drop 1 (rows g)) (le-ltb (length f) 2 (omega arith) ∙ sym (le-ltb (length g) 2 (omega arith))) refl
+      alike refused (accepted f) (accepted g) NoHead (drop 1 (rows f)) (drop 1 (rows g)) (le-ltb (length f) 2 (omega arith) ∙ sym (le-ltb (length g) 2 (omega arith))) refl
       (λ past1.
-      alike refused (accepted f) (accepted g) 2 (drop 2 (rows f)) (drop 2 (rows g)) (ap (λ (t : ℕ). outside t mostThreads) threads-same) refl
+      alike refused (accepted f) (accepted g) Threads (drop 2 (rows f)) (drop 2 (rows g)) (ap (λ (t : ℕ). outside t mostThreads) threads-same) refl
       (λ past2.
       let few = inside (threadsIn f) mostThreads past2 .1 in
-      alike refused (accepted f) (accepted g) 3 (drop 3 (rows f)) (drop 3 (rows g)) (ap (λ (k : ℕ). outside k mostKeys) keys-same) refl
+      alike refused (accepted f) (accepted g) Keys (drop 3 (rows f)) (drop 3 (rows g)) (ap (λ (k : ℕ). outside k mostKeys) keys-same) refl
       (λ past3.
-      alike refused (accepted f) (accepted g) 4 (tableRows f) (tableRows g)
+      alike refused (accepted f) (accepted g) TableCutShort (restRows f) (restRows g)
       (le-ltb (length f) (bodyAt (threadsIn f)) (omega arith) ∙ sym (le-ltb (length g) (bodyAt (threadsIn g)) (omega (arith, threads-same))))
       refl
       (λ past4. table-same few))))

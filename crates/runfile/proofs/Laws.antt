@@ -1,7 +1,7 @@
 -- What one turn of a loop does to the first bad one, to a sum and to a list of numbers, over whatever is tested, summed and listed.
 use Prim.Native.Nat.{ℕ, zero, suc, _+_, _-_, _<_, _≤_}
 use mathlib.Core.Path.{_≡_, refl, sym, ap, subst, _∙_}
-use mathlib.Core.Bool.{Bool, true, false, not}
+use mathlib.Core.Bool.{Bool, true, false, not, cond}
 use mathlib.Core.List.{List, [], _∷_, _++_}
 use native.Mathlib.Omega.{arith}
 use native.Mathlib.Numerals.{add-one}
@@ -13,7 +13,7 @@ use lib.ListN.{length, getD, set, drop, replicate, length-replicate}
 use lib.Seq.{sets, sets-eq}
 use Rattle.runfile.specs.Layout.{countOf}
 use Rattle.runfile.specs.Write.{disagree}
-use Rattle.runfile.specs.Rows.{pick, outside, firstBad, firstBadIn, sumTo, listFrom}
+use Rattle.runfile.specs.Rows.{outside, firstBad, firstBadIn, sumTo, listFrom}
 
 pub true-false : true ≡ false → ⊥
 true-false e = subst T e tt
@@ -85,7 +85,7 @@ padded vs m h =
 pub inside : (x most : ℕ) → outside x most ≡ false → (1 ≤ x) × (x ≤ most)
 inside x most = go (ltb x 1) refl
   where
-    go : (b : Bool) → ltb x 1 ≡ b → pick b true (ltb most x) ≡ false → (1 ≤ x) × (x ≤ most)
+    go : (b : Bool) → ltb x 1 ≡ b → cond b true (ltb most x) ≡ false → (1 ≤ x) × (x ≤ most)
     go true e h = absurd (true-false h)
     go false e h = (ltb-false x 1 e, ltb-false most x h)
 
@@ -95,7 +95,7 @@ pub agreed : (threads : ℕ) (counts : List ℕ) (operations : ℕ) → disagree
 agreed threads counts operations = go (eqb (length counts) threads) refl
   where
     go : (b : Bool) → eqb (length counts) threads ≡ b
-        → pick b (not (eqb (sumTo (countOf counts) (length counts)) operations)) true ≡ false
+        → cond b (not (eqb (sumTo (countOf counts) (length counts)) operations)) true ≡ false
         → (length counts ≡ threads) × (sumTo (countOf counts) (length counts) ≡ operations)
     go true e h = (eqb-true _ _ e, eqb-true _ _ (not-false _ h))
     go false e h = absurd (true-false h)
@@ -107,7 +107,7 @@ unfolding firstBad
 first-low ok zero p = omega arith
 first-low ok (suc n) p = go (ok p) (first-low ok n (p + 1))
   where
-    go : (b : Bool) → p + 1 ≤ firstBad ok n (p + 1) → p ≤ pick b (firstBad ok n (p + 1)) p
+    go : (b : Bool) → p + 1 ≤ firstBad ok n (p + 1) → p ≤ cond b (firstBad ok n (p + 1)) p
     go true h = omega arith
     go false h = omega arith
 
@@ -116,7 +116,7 @@ unfolding firstBad
 first-high ok zero p = omega arith
 first-high ok (suc n) p = go (ok p) (first-high ok n (p + 1))
   where
-    go : (b : Bool) → firstBad ok n (p + 1) ≤ p + 1 + n → pick b (firstBad ok n (p + 1)) p ≤ p + suc n
+    go : (b : Bool) → firstBad ok n (p + 1) ≤ p + 1 + n → cond b (firstBad ok n (p + 1)) p ≤ p + suc n
     go true h = omega arith
     go false h = omega arith
 
@@ -125,7 +125,7 @@ unfolding firstBad
 first-before ok zero p i low h = absurd (omega arith)
 first-before ok (suc n) p i low h = go (ok p) refl h (first-before ok n (p + 1) i)
   where
-    go : (b : Bool) → ok p ≡ b → i < pick b (firstBad ok n (p + 1)) p
+    go : (b : Bool) → ok p ≡ b → i < cond b (firstBad ok n (p + 1)) p
         → (p + 1 ≤ i → i < firstBad ok n (p + 1) → ok i ≡ true) → ok i ≡ true
     go false e h rest = absurd (omega arith)
     go true e h rest = elim (ℕ-discrete i p) [ yes q ↦ rw q e | no q ↦ rest (omega arith) h ]
@@ -135,9 +135,9 @@ unfolding firstBad
 first-at ok zero p h = absurd (omega arith)
 first-at ok (suc n) p h = go (ok p) refl h (first-at ok n (p + 1))
   where
-    go : (b : Bool) → ok p ≡ b → pick b (firstBad ok n (p + 1)) p < p + suc n
+    go : (b : Bool) → ok p ≡ b → cond b (firstBad ok n (p + 1)) p < p + suc n
         → (firstBad ok n (p + 1) < p + 1 + n → ok (firstBad ok n (p + 1)) ≡ false)
-        → ok (pick b (firstBad ok n (p + 1)) p) ≡ false
+        → ok (cond b (firstBad ok n (p + 1)) p) ≡ false
     go false e h rest = e
     go true e h rest = rest (omega arith)
 

@@ -3,24 +3,29 @@ use Prim.Native.Nat.{ℕ, zero, suc, _+_, _-_, _*_, _/_, _%_, _<_, _≤_}
 use mathlib.Core.Path.{_≡_, sym, ap, subst, _∙_}
 use mathlib.Core.Bool.{true}
 use mathlib.Core.List.{List, [], _∷_, _++_, append-assoc}
+use mathlib.Core.Logic.{inl, inr}
 use native.Mathlib.Omega.{arith}
 use native.Mathlib.Nat.{add-zero}
 use lib.ListN.{length, getD, take, drop, replicate, length-drop, take-append-drop}
 use lib.Seq.{take-all, take-at, drop-drop, getD-take, getD-drop, length-take-le}
-use borrow.Author.Tests.{lt-ltb, le-ltb, eq-eqb}
-use Rattle.figures.specs.Limits.{mostThreads, mostOperations, mostSteps}
-use Rattle.runfile.specs.Rows.{sumTo, listFrom, Passes}
+use borrow.Author.Tests.{ltb-true, lt-ltb}
+use Rattle.figures.specs.Limits.{mostThreads, mostKeys}
+use Rattle.runfile.specs.Rows.{sumTo, listFrom}
 use Rattle.runfile.specs.Layout.{wordAt, entryAt, bodyAt, offsetIn, countIn, countOf, operationRight, stepRight, entries, fileOf}
 use Rattle.runfile.specs.Read.{threadsIn, keysIn, operationsIn, stepsIn, scheduleIn, countsIn, accepted, readOf}
-use Rattle.runfile.specs.Write.{nothing, unwritten, written, wrongIn, writerRows, writeOf, writtenOf}
+use Rattle.runfile.specs.Write.{writeOf}
 use Rattle.runfile.specs.Accepts.{Accepts}
 use Rattle.runfile.specs.Contents.{part, Bytes, Remade}
 use Rattle.runfile.specs.declared.Reading.{Reading}
-use Rattle.runfile.proofs.Laws.{first-none, sum-same, sum-on, list-at, list-snoc, length-list}
-use Rattle.runfile.proofs.Rows.{passed}
+use Rattle.runfile.proofs.Laws.{true-false, sum-same, sum-on, list-at, list-snoc, length-list}
+use Rattle.runfile.proofs.Rows.{none-of}
 use Rattle.runfile.proofs.File.{drop-on, word-low, word-high}
-use Rattle.runfile.proofs.Table.{read-passes}
-use Rattle.runfile.proofs.Accepts.{reads-accepted, offsets-right, facts}
+use Rattle.runfile.proofs.Table.{outside-is, allowed-is, write-decides}
+use Rattle.runfile.proofs.Accepts.{by, reads-accepted, offsets-right, facts}
+use Rattle.runfile.specs.Table.{Unwritable, writingOrder, threads-bad, keys-bad, lists-disagree, operations-over, steps-over, operation-bad, step-bad, room-small}
+use Rattle.runfile.specs.declared.Refusal.{Refusal}
+use Rattle.runfile.specs.declared.Refusal.the-variants.{Threads, Keys}
+use Rattle.runfile.proofs.Writer.{writes-told, writes-file}
 
 -- four bytes are the two numbers that they are read as
 entry-bytes : (l : List ℕ) (p : ℕ) → Bytes l → p + 4 ≤ length l
@@ -93,8 +98,6 @@ module _ (f : List ℕ) (bytes : Bytes f) (zero-told : readOf f .number ≡ 0) w
       ∙ rw (all, ← bodies, table))
       ∙ sym head
 
-  -- ---- the writer takes these contents
-
   sum-made : sumTo (countOf (countsIn f)) (length (countsIn f)) ≡ length operations-of
   sum-made =
       rw length-list
@@ -116,53 +119,35 @@ module _ (f : List ℕ) (bytes : Bytes f) (zero-told : readOf f .number ≡ 0) w
       rw (getD-take (stepsIn f) (drop (scheduleIn f) f) j 0 (omega arith), getD-drop (scheduleIn f) f j 0)
       (lt-ltb _ _ (holds .steps-named (scheduleIn f + j) (omega arith) (omega (arith, holds .file-ends))))
 
-  writer-takes : (room : ℕ) → length f ≤ room
-      → Passes (writerRows (threadsIn f) (keysIn f) (countsIn f) operations-of schedule-of room)
-  writer-takes room h =
-      let ps = read-passes f zero-told in (
-        ps .1 .0,
-        (
-          ps .1 .1 .0,
-          (
-            simp (eq-eqb (length (countsIn f)) (threadsIn f) (length-list (countIn f) (threadsIn f) 0), eq-eqb (sumTo (countOf (countsIn f)) (length (countsIn f))) (length operations-of) sum-made),
-            (
-              le-ltb mostOperations (length operations-of) (omega (arith, operations-length, holds .operations-few)),
-              (
-                le-ltb mostSteps (length schedule-of) (omega (arith, steps-length, holds .steps-few)),
-                (
-                  le-ltb (wrongIn (operationRight (keysIn f) operations-of) operations-of) (length operations-of)
-                      (omega (arith, first-none (operationRight (keysIn f) operations-of) {from = 0} {to = length operations-of} (omega arith) (λ j l u. operation-byte j u))),
-                  (
-                    le-ltb (wrongIn (stepRight (threadsIn f) schedule-of) schedule-of) (length schedule-of)
-                        (omega (arith, first-none (stepRight (threadsIn f) schedule-of) {from = 0} {to = length schedule-of} (omega arith) (λ j l u. step-byte j u))),
-                    (
-                      le-ltb room (length (fileOf (threadsIn f) (keysIn f) (countsIn f) operations-of schedule-of)) (omega (arith, ap length file-made)),
-                      tt,
-                    ),
-                  ),
-                ),
-              ),
-            ),
-          ),
-        ),
-      )
+  -- ---- the writer takes these contents: no row of its table holds of them
+
+  module _ (room : ℕ) (enough : length f ≤ room) where
+    no-row : {r : Refusal} {p : ℕ} → Unwritable (threadsIn f) (keysIn f) (countsIn f) operations-of schedule-of room r p → ⊥
+    no-row (threads-bad h) = true-false (sym (outside-is (threadsIn f) mostThreads .1 h) ∙ by f zero-told Threads)
+    no-row (keys-bad h) = true-false (sym (outside-is (keysIn f) mostKeys .1 h) ∙ by f zero-told Keys)
+    no-row (lists-disagree (inl h)) = h (length-list (countIn f) (threadsIn f) 0)
+    no-row (lists-disagree (inr h)) = h sum-made
+    no-row (operations-over h) = omega (arith, operations-length, holds .operations-few)
+    no-row (steps-over h) = omega (arith, steps-length, holds .steps-few)
+    no-row (operation-bad {p} h) = h .2 (allowed-is (keysIn f) (getD operations-of p 0) .0 (operation-byte p (h .1)))
+    no-row (step-bad {p} h) = h .2 (ltb-true (getD schedule-of p 0) (threadsIn f) (step-byte p (h .1)))
+    no-row (room-small h) = omega (arith, ap length file-made)
+
+    writer-takes : writeOf (threadsIn f) (keysIn f) (countsIn f) operations-of schedule-of room .number ≡ 0
+    writer-takes =
+        write-decides (threadsIn f) (keysIn f) (countsIn f) operations-of schedule-of room .accepts .1
+        (none-of (Unwritable (threadsIn f) (keysIn f) (countsIn f) operations-of schedule-of room) (λ r p. no-row) writingOrder)
 
   counts-taken : take (threadsIn f) (countsIn f ++ replicate (mostThreads - threadsIn f) 0) ≡ countsIn f
   counts-taken = take-at (countsIn f) (replicate (mostThreads - threadsIn f) 0) (threadsIn f) (length-list (countIn f) (threadsIn f) 0)
 
   accepted-remade : (room : ℕ) → length f ≤ room → Remade f (accepted f) room
-  unfolding operations-of schedule-of writeOf writtenOf
+  unfolding operations-of schedule-of
   accepted-remade room h =
-      let ps = writer-takes room h in
+      let zero = writer-takes room h in
       record {
-        answer =
-            rw counts-taken
-            (passed unwritten (written (threadsIn f) (keysIn f) (countsIn f) operations-of schedule-of) (writerRows (threadsIn f) (keysIn f) (countsIn f) operations-of schedule-of room) ps
-            ∙ rw file-made);
-        file =
-            rw counts-taken
-            (passed nothing (fileOf (threadsIn f) (keysIn f) (countsIn f) operations-of schedule-of) (writerRows (threadsIn f) (keysIn f) (countsIn f) operations-of schedule-of room) ps
-            ∙ file-made);
+        answer = rw counts-taken (writes-told (threadsIn f) (keysIn f) (countsIn f) operations-of schedule-of room zero ∙ rw file-made);
+        file = rw counts-taken (writes-file (threadsIn f) (keysIn f) (countsIn f) operations-of schedule-of room zero ∙ file-made);
       }
 
   -- an accepted file, taken apart by reading, is made again by writing

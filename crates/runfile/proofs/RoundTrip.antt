@@ -1,24 +1,28 @@
 -- What is written reads back the same.
 use Prim.Native.Nat.{ℕ, _+_, _-_, _<_, _≤_}
 use mathlib.Core.Path.{_≡_, refl, sym, ap, subst, _∙_}
-use mathlib.Core.Bool.{true}
+use mathlib.Core.Bool.{true, false}
 use mathlib.Core.List.{List, [], _∷_, _++_}
 use native.Mathlib.Omega.{arith}
 use lib.ListN.{length, getD, take, drop, length-append, List·getD-append, drop-of-length-le}
 use lib.Seq.{take-length, sets, sets-eq, getD-drop, getD-at, getD-append-add, take-at, drop-at, drop-drop}
 use borrow.Author.Tests.{ltb-true, ltb-false}
 use Rattle.figures.specs.Limits.{mostThreads, mostKeys, mostOperations, mostSteps}
+use Rattle.figures.specs.Codec.{allowed}
+use Rattle.runfile.specs.declared.Refusal.{Refusal}
+use Rattle.runfile.specs.declared.Refusal.the-variants.{Threads, Keys, TooManyOperations, TooManySteps, Operation, Step}
 use Rattle.runfile.specs.Rows.{sumTo, listFrom, Passes}
-use Rattle.runfile.specs.Layout.{bodyAt, offsetIn, countIn, countOf, allowed, operationRight, stepRight, entries, fileOf}
+use Rattle.runfile.specs.Layout.{bodyAt, offsetIn, countIn, countOf, operationRight, stepRight, entries, fileOf}
+use Rattle.runfile.specs.Shared.{wrongOperationIn, wrongStepIn}
 use Rattle.runfile.specs.Read.{threadsIn, keysIn, operationsIn, stepsIn, scheduleIn, readOf}
-use Rattle.runfile.specs.Write.{unwritten, written, wrongIn, writerRows, writeOf, writtenOf}
-use Rattle.runfile.specs.Table.{Allowed, Refuses, short, threads-outside, keys-outside, cut-short, offset-wrong, operations-many, steps-many, length-wrong, operation-wrong, step-wrong}
+use Rattle.runfile.specs.Write.{writerRows, writeOf, writtenOf}
+use Rattle.runfile.specs.Table.{Allowed, Refuses, readingOrder, short, threads-outside, keys-outside, cut-short, offset-wrong, operations-many, steps-many, length-wrong, operation-wrong, step-wrong}
 use Rattle.runfile.specs.Contents.{contents, ReadsAs}
 use Rattle.runfile.proofs.Laws.{true-false, first-before, sum-same, list-is}
 use Rattle.runfile.proofs.File.{allCounts, file-drop, file-entry, length-file}
-use Rattle.runfile.proofs.Writer.{writer-passes, ready, writes-file}
-use Rattle.runfile.proofs.Rows.{passed}
-use Rattle.runfile.proofs.Table.{outside-is, allowed-is, accepts-none}
+use Rattle.runfile.proofs.Writer.{writer-passes, ready, writes-told, writes-file}
+use Rattle.runfile.proofs.Rows.{past, rowNamed, none-of}
+use Rattle.runfile.proofs.Table.{outside-is, allowed-is, read-decides}
 use Rattle.runfile.proofs.Accepts.{reads-accepted}
 
 module _ (threads keys : ℕ) (counts operations schedule : List ℕ) (room : ℕ)
@@ -81,16 +85,19 @@ module _ (threads keys : ℕ) (counts operations schedule : List ℕ) (room : �
   passes : Passes (writerRows threads keys counts operations schedule room)
   passes = writer-passes threads keys counts operations schedule room zero-told
 
+  by : (r : Refusal) → rowNamed (writerRows threads keys counts operations schedule room) r .applies ≡ false
+  by = past (writerRows threads keys counts operations schedule room) passes
+
   operation-right : (j : ℕ) → j < length operations → allowed keys (getD operations j 0) ≡ true
   operation-right j h =
       first-before (operationRight keys operations) (length operations - 0) 0 j (omega arith)
-      (omega (arith, ltb-false (wrongIn (operationRight keys operations) operations) (length operations) (passes .1 .1 .1 .1 .1 .0)))
+      (omega (arith, ltb-false (wrongOperationIn keys operations 0 (length operations)) (length operations) (by Operation)))
 
   step-right : (j : ℕ) → j < length schedule → getD schedule j 0 < threads
   step-right j h =
       ltb-true (getD schedule j 0) threads
       (first-before (stepRight threads schedule) (length schedule - 0) 0 j (omega arith)
-      (omega (arith, ltb-false (wrongIn (stepRight threads schedule) schedule) (length schedule) (passes .1 .1 .1 .1 .1 .1 .0))))
+      (omega (arith, ltb-false (wrongStepIn threads schedule 0 (length schedule)) (length schedule) (by Step))))
 
   operationsIn-is : operationsIn file ≡ length operations
   operationsIn-is = rw threads-is operations-is
@@ -119,14 +126,14 @@ module _ (threads keys : ℕ) (counts operations schedule : List ℕ) (room : �
       ap (λ (q : ℕ). getD file q 0) e ∙ byte-is (length operations + j) ∙ getD-append-add operations schedule j 0 in
       rw b (step-right j (omega (arith, length-is)))
 
-  no-row : {n p : ℕ} → Refuses file n p → ⊥
+  no-row : {r : Refusal} {p : ℕ} → Refuses file r p → ⊥
   no-row (short h) = omega (arith, length-is)
-  no-row (threads-outside h) = true-false (sym (outside-is (threadsIn file) mostThreads .1 h) ∙ rw threads-is (passes .0))
-  no-row (keys-outside h) = true-false (sym (outside-is (keysIn file) mostKeys .1 h) ∙ rw keys-is (passes .1 .0))
+  no-row (threads-outside h) = true-false (sym (outside-is (threadsIn file) mostThreads .1 h) ∙ rw threads-is (by Threads))
+  no-row (keys-outside h) = true-false (sym (outside-is (keysIn file) mostKeys .1 h) ∙ rw keys-is (by Keys))
   no-row (cut-short h) = omega (arith, length-is, threads-is)
   no-row (offset-wrong {i} h) = h .2 (rw threads-is (offset-is i (omega (arith, threads-is))))
-  no-row (operations-many h) = omega (arith, operationsIn-is, ltb-false mostOperations (length operations) (passes .1 .1 .1 .0))
-  no-row (steps-many h) = omega (arith, stepsIn-is, ltb-false mostSteps (length schedule) (passes .1 .1 .1 .1 .0))
+  no-row (operations-many h) = omega (arith, operationsIn-is, ltb-false mostOperations (length operations) (by TooManyOperations))
+  no-row (steps-many h) = omega (arith, stepsIn-is, ltb-false mostSteps (length schedule) (by TooManySteps))
   no-row (length-wrong h) = h (omega (arith, length-is, scheduleIn-is, stepsIn-is))
   no-row (operation-wrong {p} h) = h .2 (rw keys-is (operation-at p (omega (arith, threads-is)) (omega (arith, scheduleIn-is))))
   no-row (step-wrong {p} h) =
@@ -141,7 +148,7 @@ module _ (threads keys : ℕ) (counts operations schedule : List ℕ) (room : �
 
   file-told : readOf file ≡ contents threads keys counts operations schedule
   file-told =
-      reads-accepted file (accepts-none file .1 (λ n p. no-row))
+      reads-accepted file (read-decides file .accepts .1 (none-of (Refuses file) (λ r p. no-row) readingOrder))
       ∙ simp (threads-is, keys-is, counts-are, operations-is, steps-is, schedule-is)
 
   pub file-reads-as : ReadsAs threads keys counts operations schedule (fileOf threads keys counts operations schedule)
@@ -160,13 +167,12 @@ module _ (threads keys : ℕ) (counts operations schedule : List ℕ) (room : �
       → ReadsAs threads keys counts operations schedule
       (take (writeOf threads keys counts operations schedule room .length)
       (sets out 0 (writtenOf threads keys counts operations schedule room)))
-  unfolding writeOf
   written-reads-as out h =
       let fits = ready threads keys counts operations schedule room zero-told .5 in
       let e : take (writeOf threads keys counts operations schedule room .length)
       (sets out 0 (writtenOf threads keys counts operations schedule room))
       ≡ fileOf threads keys counts operations schedule =
-      rw (passed unwritten (written threads keys counts operations schedule) (writerRows threads keys counts operations schedule room) passes, writes-file threads keys counts operations schedule room zero-told)
+      rw (writes-told threads keys counts operations schedule room zero-told, writes-file threads keys counts operations schedule room zero-told)
       (ap (take (length (fileOf threads keys counts operations schedule))) (sets-eq (fileOf threads keys counts operations schedule) out 0 (omega arith))
       ∙ take-at (fileOf threads keys counts operations schedule) _ (length (fileOf threads keys counts operations schedule)) refl) in
       rw e file-reads-as

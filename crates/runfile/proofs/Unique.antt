@@ -1,28 +1,20 @@
--- Two answers that meet the promise are equal: of `read`, and of `write`, whose output after is promised too.
-use Prim.Native.Nat.{ℕ}
-use mathlib.Core.Path.{_≡_, sym, _∙_}
-use mathlib.Core.List.{List}
-use lib.ListN.{length}
-use lib.Seq.{sets}
-use Rattle.runfile.specs.Read.{readOf}
-use Rattle.runfile.specs.Write.{writeOf, writtenOf}
-use Rattle.runfile.specs.declared.Reading.{Reading}
-use Rattle.runfile.specs.declared.Writing.{Writing}
+-- Two answers that meet the promise are equal, of `number`, of `read` and of `write`; and so is the output that `write` leaves
+-- (`κs`: how long what is lent is lent).
+use contract.Lifetimes.{Lfts}
+use denote.Ref.{now}
+use Rattle.terms.proofs.Once.{Once, Ends, once}
+use Rattle.runfile.proofs.Refusal.number.Reads as number
+use Rattle.runfile.proofs.read.Reads as read
+use Rattle.runfile.proofs.write.Reads as write
 
--- one law, over what is promised
-once : {A : Type 0} {x y promised : A} → x ≡ promised → y ≡ promised → x ≡ y
-once e e′ = e ∙ sym e′
+pub number-once : Once (number.Post tt)
+number-once a r s e d p q = once p q
 
-pub read-once : (f : List ℕ) (r r′ : Reading) → r ≡ readOf f → r′ ≡ readOf f → r ≡ r′
-read-once f r r′ = once
+pub read-once : (κs : Lfts 1) → Once (read.Post κs)
+read-once κs a r s e d p q = once p q
 
-module _ (threads keys : ℕ) (counts operations schedule out : List ℕ) where
-  pub write-once : (w w′ : Writing) → w ≡ writeOf threads keys counts operations schedule (length out)
-      → w′ ≡ writeOf threads keys counts operations schedule (length out)
-      → w ≡ w′
-  write-once w w′ = once
+pub write-once : (κs : Lfts 4) → Once (write.Post κs)
+write-once κs a r s e d p q = once (p .0) (q .0)
 
-  pub written-once : (after after′ : List ℕ) → after ≡ sets out 0 (writtenOf threads keys counts operations schedule (length out))
-      → after′ ≡ sets out 0 (writtenOf threads keys counts operations schedule (length out))
-      → after ≡ after′
-  written-once after after′ = once
+pub write-ends : (κs : Lfts 4) → Ends (λ e. now (e .1 .1 .1 .1 .1 .0)) (write.Post κs)
+write-ends κs a r s e d p q = once (p .1) (q .1)

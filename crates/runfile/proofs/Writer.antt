@@ -3,35 +3,31 @@
 use Prim.Native.Nat.{ℕ, _≤_}
 use mathlib.Core.Path.{_≡_, refl}
 use mathlib.Core.List.{List, []}
-use native.Mathlib.Omega.{arith}
 use lib.ListN.{length}
 use borrow.Author.Tests.{ltb-false}
 use Rattle.figures.specs.Limits.{mostThreads, mostOperations, mostSteps}
+use Rattle.runfile.specs.declared.Refusal.{Refusal}
+use Rattle.runfile.specs.declared.Refusal.the-variants.{Threads, TooManyOperations, TooManySteps, TooSmall, Lists}
 use Rattle.runfile.specs.Rows.{sumTo, Passes, Stops}
 use Rattle.runfile.specs.Layout.{countOf, fileOf}
 use Rattle.runfile.specs.Write.{nothing, unwritten, written, writerRows, writeOf, writtenOf}
 use Rattle.runfile.proofs.Laws.{inside, agreed}
-use Rattle.runfile.proofs.Rows.{Numbered, passed, stopped, number-passes, number-stops}
+use Rattle.runfile.proofs.Rows.{passed, stopped, past, number-passes, number-stops}
 
 module _ (threads keys : ℕ) (counts operations schedule : List ℕ) (room : ℕ) where
-  numbered : Numbered (writerRows threads keys counts operations schedule room)
-  numbered = omega arith
-
   pub writer-passes : writeOf threads keys counts operations schedule room .number ≡ 0
       → Passes (writerRows threads keys counts operations schedule room)
   unfolding writeOf
   writer-passes =
       number-passes unwritten (written threads keys counts operations schedule) (λ w. w .number) (λ n p. refl)
       (writerRows threads keys counts operations schedule room)
-      numbered
 
   pub writer-stops : (writeOf threads keys counts operations schedule room .number ≡ 0 → ⊥)
-      → (n : ℕ) × (p : ℕ) × Stops (writerRows threads keys counts operations schedule room) n p
+      → (r : Refusal) × (p : ℕ) × Stops (writerRows threads keys counts operations schedule room) r p
   unfolding writeOf
   writer-stops =
       number-stops unwritten (written threads keys counts operations schedule) (λ w. w .number) (λ n p. refl)
       (writerRows threads keys counts operations schedule room)
-      numbered
       refl
 
   -- what the filling of the output rests on
@@ -40,15 +36,22 @@ module _ (threads keys : ℕ) (counts operations schedule : List ℕ) (room : �
       × (sumTo (countOf counts) (length counts) ≡ length operations)
       × (length (fileOf threads keys counts operations schedule) ≤ room)
   ready e =
-      let ps = writer-passes e in
-      let agree = agreed threads counts (length operations) (ps .1 .1 .0) in (
+      let by = past (writerRows threads keys counts operations schedule room) (writer-passes e) in
+      let agree = agreed threads counts (length operations) (by Lists) in (
         agree .0,
-        inside threads mostThreads (ps .0) .1,
-        ltb-false mostOperations (length operations) (ps .1 .1 .1 .0),
-        ltb-false mostSteps (length schedule) (ps .1 .1 .1 .1 .0),
+        inside threads mostThreads (by Threads) .1,
+        ltb-false mostOperations (length operations) (by TooManyOperations),
+        ltb-false mostSteps (length schedule) (by TooManySteps),
         agree .1,
-        ltb-false room (length (fileOf threads keys counts operations schedule)) (ps .1 .1 .1 .1 .1 .1 .1 .0),
+        ltb-false room (length (fileOf threads keys counts operations schedule)) (by TooSmall),
       )
+
+  pub writes-told : writeOf threads keys counts operations schedule room .number ≡ 0
+      → writeOf threads keys counts operations schedule room ≡ written threads keys counts operations schedule
+  unfolding writeOf
+  writes-told e =
+      passed unwritten (written threads keys counts operations schedule) (writerRows threads keys counts operations schedule room)
+      (writer-passes e)
 
   pub writes-file : writeOf threads keys counts operations schedule room .number ≡ 0
       → writtenOf threads keys counts operations schedule room ≡ fileOf threads keys counts operations schedule

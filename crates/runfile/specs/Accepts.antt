@@ -5,8 +5,9 @@ use mathlib.Core.Bool.{true}
 use mathlib.Core.List.{List}
 use lib.ListN.{length, getD}
 use Rattle.figures.specs.Limits.{mostThreads, mostKeys, mostOperations, mostSteps}
+use Rattle.figures.specs.Codec.{allowed}
 use Rattle.runfile.specs.Rows.{sumTo}
-use Rattle.runfile.specs.Layout.{bodyAt, countIn, countOf, allowed}
+use Rattle.runfile.specs.Layout.{bodyAt, countIn, countOf}
 use Rattle.runfile.specs.declared.Reading.{Reading}
 
 pub record Accepts (f : List ℕ) (r : Reading) : Type 0 where

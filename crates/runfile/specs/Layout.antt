@@ -3,8 +3,8 @@ use Prim.Native.Nat.{ℕ, _+_, _*_, _/_, _%_}
 use mathlib.Core.List.{List, [], _∷_, _++_}
 use mathlib.Core.Bool.{Bool}
 use lib.ListN.{length, getD}
-use lib.Dec.{ltb, eqb}
-use Rattle.runfile.specs.Rows.{pick}
+use lib.Dec.{ltb}
+use Rattle.figures.specs.Codec.{allowed}
 
 -- a two-byte number, low byte first, at a position of the file
 abbrev pub wordAt : List ℕ → ℕ → ℕ
@@ -23,10 +23,6 @@ offsetIn f i = wordAt f (entryAt i)
 
 abbrev pub countIn : List ℕ → ℕ → ℕ
 countIn f i = wordAt f (entryAt i + 2)
-
--- An operation byte is kind × 64 + key. Insert, delete and contains (0, 1, 2) have a key below K; size is exactly 192.
-abbrev pub allowed : ℕ → ℕ → Bool
-allowed keys byte = pick (ltb (byte / 64) 3) (ltb (byte % 64) keys) (eqb byte 192)
 
 -- whether the byte at p is right, of a list of operation bytes and of a schedule
 abbrev pub operationRight : ℕ → List ℕ → ℕ → Bool

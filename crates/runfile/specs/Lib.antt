@@ -1,5 +1,7 @@
+pub mod Refusals
 pub mod Rows
 pub mod Layout
+pub mod Shared
 pub mod Read
 pub mod Write
 pub mod Table

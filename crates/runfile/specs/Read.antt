@@ -4,9 +4,11 @@ use mathlib.Core.List.{List, [], _∷_, _++_}
 use mathlib.Core.Bool.{Bool, not}
 use lib.ListN.{length, getD, replicate}
 use lib.Dec.{ltb, eqb}
-use Rattle.figures.specs.Limits.{mostThreads, mostKeys, mostOperations, mostSteps}
-use Rattle.runfile.specs.Rows.{Row, row, decide, outside, firstBadIn, sumTo, listFrom}
-use Rattle.runfile.specs.Layout.{entryAt, bodyAt, offsetIn, countIn, operationRight, stepRight}
+use Rattle.figures.specs.Limits.{mostThreads}
+use Rattle.runfile.specs.Rows.{Row, row, decide, firstBadIn, sumTo, listFrom}
+use Rattle.runfile.specs.Layout.{entryAt, bodyAt, offsetIn, countIn}
+use Rattle.runfile.specs.Shared.{threadsRow, keysRow, operationsRow, stepsRow, wrongOperationIn, wrongStepIn, operationRow, stepRow, roomRow}
+use Rattle.runfile.specs.declared.Refusal.the-variants.{NoHead, TableCutShort, Offset, Length}
 use Rattle.runfile.specs.declared.Reading.{Reading}
 
 abbrev pub threadsIn : List ℕ → ℕ
@@ -34,32 +36,41 @@ abbrev pub wrongEntry : List ℕ → ℕ
 wrongEntry f = firstBadIn (offsetRight f) 0 (threadsIn f + 1)
 
 abbrev pub wrongOperation : List ℕ → ℕ
-wrongOperation f = firstBadIn (operationRight (keysIn f) f) (bodyAt (threadsIn f)) (scheduleIn f)
+wrongOperation f = wrongOperationIn (keysIn f) f (bodyAt (threadsIn f)) (scheduleIn f)
 
 abbrev pub wrongStep : List ℕ → ℕ
-wrongStep f = firstBadIn (stepRight (threadsIn f) f) (scheduleIn f) (scheduleIn f + stepsIn f)
+wrongStep f = wrongStepIn (threadsIn f) f (scheduleIn f) (scheduleIn f + stepsIn f)
 
-abbrev pub bodyRows : List ℕ → List Row
-bodyRows f =
-    row 9 (ltb (wrongOperation f) (scheduleIn f)) (wrongOperation f)
-    ∷ row 10 (ltb (wrongStep f) (scheduleIn f + stepsIn f)) (wrongStep f)
+-- ---- the rows, in order
+
+abbrev pub headRows : List ℕ → List Row
+headRows f =
+    row NoHead (ltb (length f) 2) 0
+    ∷ threadsRow (threadsIn f)
+    ∷ keysRow (keysIn f)
+    ∷ row TableCutShort (ltb (length f) (bodyAt (threadsIn f))) 0
     ∷ []
 
 abbrev pub tableRows : List ℕ → List Row
 tableRows f =
-    row 5 (ltb (wrongEntry f) (threadsIn f + 1)) (entryAt (wrongEntry f))
-    ∷ row 6 (ltb mostOperations (operationsIn f)) 0
-    ∷ row 7 (ltb mostSteps (stepsIn f)) 0
-    ∷ row 8 (not (eqb (length f) (scheduleIn f + stepsIn f))) 0
-    ∷ bodyRows f
+    row Offset (ltb (wrongEntry f) (threadsIn f + 1)) (entryAt (wrongEntry f))
+    ∷ operationsRow (operationsIn f)
+    ∷ stepsRow (stepsIn f)
+    ∷ row Length (not (eqb (length f) (scheduleIn f + stepsIn f))) 0
+    ∷ []
+
+abbrev pub bodyRows : List ℕ → List Row
+bodyRows f =
+    operationRow (keysIn f) f (bodyAt (threadsIn f)) (scheduleIn f)
+    ∷ stepRow (threadsIn f) f (scheduleIn f) (scheduleIn f + stepsIn f)
+    ∷ []
 
 abbrev pub rows : List ℕ → List Row
-rows f =
-    row 1 (ltb (length f) 2) 0
-    ∷ row 2 (outside (threadsIn f) mostThreads) 0
-    ∷ row 3 (outside (keysIn f) mostKeys) 0
-    ∷ row 4 (ltb (length f) (bodyAt (threadsIn f))) 0
-    ∷ tableRows f
+rows f = headRows f ++ tableRows f ++ bodyRows f
+
+-- where outputs are lent there is one row more: one of them is too small
+abbrev pub runningRows : List ℕ → Bool → List Row
+runningRows f small = rows f ++ roomRow small ∷ []
 
 -- a refusal: number and place, every other number 0
 abbrev pub refused : ℕ → ℕ → Reading

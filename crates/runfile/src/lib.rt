@@ -1,21 +1,67 @@
 // The run file (document 01): reading it and writing it, by one layout.
 use figures::Machine;
 ghost use mathlib.Core.Path.{_≡_};
-ghost use mathlib.Core.Bool.{Bool, true, false};
 ghost use mathlib.Core.List.{[], _∷_, _++_};
-ghost use Prim.Native.Nat.{ℕ, _+_, _-_, _*_, _/_, _%_, _≤_, _<_};
-ghost use lib.ListN.{length, getD, replicate};
+ghost use Prim.Native.Nat.{_+_, _-_, _*_, _/_, _%_, _≤_, _<_};
+ghost use lib.ListN.{length, replicate};
 ghost use lib.Seq.{sets};
 ghost use Rattle.figures.specs.Limits.{mostThreads, mostOperations, mostSteps};
+ghost use Rattle.figures.specs.Codec.{allowed};
+ghost use Rattle.runfile.specs.Refusals.{numberOf};
 ghost use Rattle.runfile.specs.Rows.{outside, firstBadIn, sumTo, listFrom, decide};
-ghost use Rattle.runfile.specs.Layout.{wordAt, entryAt, bodyAt, countIn, allowed, operationRight, stepRight, countOf, entries, fileOf};
+ghost use Rattle.runfile.specs.Layout.{wordAt, entryAt, bodyAt, countIn, operationRight, stepRight, countOf, entries, fileOf};
 ghost use Rattle.runfile.specs.Read.{threadsIn, operationsIn, stepsIn, scheduleIn, wrongEntry, refused, accepted, bodyRows, tableRows, readOf};
 ghost use Rattle.runfile.specs.Write.{disagree, unwritten, written, writerBodyRows, writeOf, writtenOf};
+
+// The rows of document 01's table, by name. What each asks and in which order they are tried, specs/Read.antt and specs/Write.antt say.
+pub enum Refusal {
+    NoHead,
+    Threads,
+    Keys,
+    TableCutShort,
+    Offset,
+    TooManyOperations,
+    TooManySteps,
+    Length,
+    Operation,
+    Step,
+    TooSmall,
+    Lists,
+}
+
+impl Refusal {
+    // The row's number in the table.
+    pub fn number(self) -> u32
+        ensures { λ r. ⌜ r ≡ numberOf self ⌝ }
+    {
+        match self {
+            Refusal::NoHead => 1,
+            Refusal::Threads => 2,
+            Refusal::Keys => 3,
+            Refusal::TableCutShort => 4,
+            Refusal::Offset => 5,
+            Refusal::TooManyOperations => 6,
+            Refusal::TooManySteps => 7,
+            Refusal::Length => 8,
+            Refusal::Operation => 9,
+            Refusal::Step => 10,
+            Refusal::TooSmall => 11,
+            Refusal::Lists => 12,
+        }
+    }
+}
 
 // T and K, and then contents entries of four bytes.
 const HEADER: usize = 2;
 
 const ENTRY: usize = 4;
+
+// One byte more than any accepted file has: a longer input is told from that many of its bytes (`kept-same` of proofs/Bounded.antt).
+pub const KEPT: usize = HEADER
+    + ENTRY * (Machine::THREADS as usize + 1)
+    + Machine::OPERATIONS
+    + Machine::STEPS
+    + 1;
 
 // What reading answers: number 0 where the file is accepted, else the refusal's number and place, and every other number 0.
 pub struct Reading {
@@ -23,7 +69,7 @@ pub struct Reading {
     pub place: usize,
     pub threads: u8,
     pub keys: u8,
-    pub counts: [u16; 8],
+    pub counts: [u16; Machine::THREADS as usize],
     pub operations_at: usize,
     pub operations: usize,
     pub schedule_at: usize,
@@ -74,10 +120,10 @@ fn is_outside(x: u8, most: u8) -> bool
 fn is_allowed(keys: u8, byte: u8) -> bool
     ensures { λ r. ⌜ r ≡ allowed keys byte ⌝ }
 {
-    if byte / 64 < 3 {
-        return byte % 64 < keys;
+    if figures::is_size(figures::call_of(byte)) {
+        return byte == 192;
     }
-    byte == 192
+    figures::key_of(byte) < keys
 }
 
 // The first byte from `from` up to `end` that is no allowed operation, or `end`.
@@ -146,11 +192,11 @@ fn sum_counts(file: &[u8], n: usize) -> usize
 }
 
 // The first n counts, and 0 for absent threads.
-fn take_counts(file: &[u8], n: usize) -> [u16; 8]
+fn take_counts(file: &[u8], n: usize) -> [u16; Machine::THREADS as usize]
     requires { ⌜ (n ≤ mostThreads) × (entryAt n ≤ length (now file)) ⌝ }
     ensures { λ r. ⌜ r ≡ listFrom (countIn (now (file .entry))) n 0 ++ replicate (mostThreads - n) 0 ⌝ }
 {
-    let mut counts = [0u16; 8];
+    let mut counts = [0u16; Machine::THREADS as usize];
     let mut i: usize = 0;
     while i < n {
         counts[i] = narrow(word(file, HEADER + ENTRY * i + 2));
@@ -159,15 +205,16 @@ fn take_counts(file: &[u8], n: usize) -> [u16; 8]
     counts
 }
 
-fn refusal(number: u32, place: usize) -> Reading
-    ensures { λ r. ⌜ r ≡ refused number place ⌝ }
+fn not_read(why: Refusal, place: usize) -> Reading
+    ensures { λ r. ⌜ r ≡ refused (numberOf why) place ⌝ }
 {
+    let number = why.number();
     Reading {
         number,
         place,
         threads: 0,
         keys: 0,
-        counts: [0u16; 8],
+        counts: [0u16; Machine::THREADS as usize],
         operations_at: 0,
         operations: 0,
         schedule_at: 0,
@@ -175,7 +222,7 @@ fn refusal(number: u32, place: usize) -> Reading
     }
 }
 
-// The bodies' rows, 9 and 10, and the answer where they let the file pass.
+// The bodies' rows, and the answer where they let the file pass.
 fn read_bodies(file: &[u8], operations: usize, schedule: usize, steps: usize) -> Reading
     requires { ⌜ (threadsIn (now file) ≤ mostThreads) × (bodyAt (threadsIn (now file)) ≤ schedule) × (schedule + steps ≤ length (now file))
         × (operations ≡ operationsIn (now file)) × (schedule ≡ scheduleIn (now file)) × (steps ≡ stepsIn (now file)) ⌝ }
@@ -186,12 +233,12 @@ fn read_bodies(file: &[u8], operations: usize, schedule: usize, steps: usize) ->
     let operations_at = HEADER + ENTRY * (wide(threads) + 1);
     let operation = wrong_operation(file, keys, operations_at, schedule);
     if operation < schedule {
-        return refusal(9, operation);
+        return not_read(Refusal::Operation, operation);
     }
     let end = schedule + steps;
     let step = wrong_step(file, threads, schedule, end);
     if step < end {
-        return refusal(10, step);
+        return not_read(Refusal::Step, step);
     }
     let counts = take_counts(file, wide(threads));
     Reading {
@@ -207,47 +254,48 @@ fn read_bodies(file: &[u8], operations: usize, schedule: usize, steps: usize) ->
     }
 }
 
-// The contents table's rows, 5 to 8, and then the bodies.
+// The contents table's rows, and then the bodies'.
 fn read_table(file: &[u8]) -> Reading
     requires { ⌜ (threadsIn (now file) ≤ mostThreads) × (bodyAt (threadsIn (now file)) ≤ length (now file)) ⌝ }
-    ensures { λ r. ⌜ r ≡ decide refused (accepted (now (file .entry))) (tableRows (now (file .entry))) ⌝ }
+    ensures { λ r. ⌜ r ≡ decide refused (accepted (now (file .entry)))
+        (tableRows (now (file .entry)) ++ bodyRows (now (file .entry))) ⌝ }
 {
     let threads = wide(file[0]);
     let entry = wrong_entry(file, threads + 1);
     if entry < threads + 1 {
-        return refusal(5, HEADER + ENTRY * entry);
+        return not_read(Refusal::Offset, HEADER + ENTRY * entry);
     }
     let operations = sum_counts(file, threads);
     if Machine::OPERATIONS < operations {
-        return refusal(6, 0);
+        return not_read(Refusal::TooManyOperations, 0);
     }
     let steps = word(file, HEADER + ENTRY * threads + 2);
     if Machine::STEPS < steps {
-        return refusal(7, 0);
+        return not_read(Refusal::TooManySteps, 0);
     }
     let schedule = word(file, HEADER + ENTRY * threads);
     if file.len() != schedule + steps {
-        return refusal(8, 0);
+        return not_read(Refusal::Length, 0);
     }
     read_bodies(file, operations, schedule, steps)
 }
 
-// Reads a run file: the lowest number of document 01's table that applies, or what the file holds and where it lies.
+// Reads a run file: the first row of document 01's table that holds, or what the file holds and where it lies.
 pub fn read(file: &[u8]) -> Reading
     ensures { λ r. ⌜ r ≡ readOf (now (file .entry)) ⌝ }
 {
     if file.len() < 2 {
-        return refusal(1, 0);
+        return not_read(Refusal::NoHead, 0);
     }
     let t = file[0];
     if is_outside(t, Machine::THREADS) {
-        return refusal(2, 0);
+        return not_read(Refusal::Threads, 0);
     }
     if is_outside(file[1], Machine::KEYS) {
-        return refusal(3, 0);
+        return not_read(Refusal::Keys, 0);
     }
     if file.len() < HEADER + ENTRY * (wide(t) + 1) {
-        return refusal(4, 0);
+        return not_read(Refusal::TableCutShort, 0);
     }
     read_table(file)
 }
@@ -288,9 +336,10 @@ fn is_disagreeing(threads: u8, counts: &[u16], operations: usize) -> bool
     sum != operations
 }
 
-fn not_written(number: u32, place: usize) -> Writing
-    ensures { λ r. ⌜ r ≡ unwritten number place ⌝ }
+fn not_written(why: Refusal, place: usize) -> Writing
+    ensures { λ r. ⌜ r ≡ unwritten (numberOf why) place ⌝ }
 {
+    let number = why.number();
     Writing {
         number,
         place,
@@ -298,7 +347,7 @@ fn not_written(number: u32, place: usize) -> Writing
     }
 }
 
-// The writer's last rows, 9, 10 and 11, of contents that are few enough.
+// The writer's last rows, of contents that are few enough: the bodies' and the room.
 fn judge_bodies(
     threads: u8,
     keys: u8,
@@ -307,21 +356,22 @@ fn judge_bodies(
     schedule: &[u8],
     room: usize,
 ) -> Writing
-    requires { ⌜ (length (now counts) ≡ threads) × (threads ≤ mostThreads) × (length (now operations) ≤ mostOperations) × (length (now schedule) ≤ mostSteps) ⌝ }
+    requires { ⌜ (length (now counts) ≡ threads) × (threads ≤ mostThreads) × (length (now operations) ≤ mostOperations)
+        × (length (now schedule) ≤ mostSteps) ⌝ }
     ensures { λ r. ⌜ r ≡ decide unwritten (written threads keys (now (counts .entry)) (now (operations .entry)) (now (schedule .entry)))
         (writerBodyRows threads keys (now (counts .entry)) (now (operations .entry)) (now (schedule .entry)) room) ⌝ }
 {
     let operation = wrong_operation(operations, keys, 0, operations.len());
     if operation < operations.len() {
-        return not_written(9, operation);
+        return not_written(Refusal::Operation, operation);
     }
     let step = wrong_step(schedule, threads, 0, schedule.len());
     if step < schedule.len() {
-        return not_written(10, step);
+        return not_written(Refusal::Step, step);
     }
     let length = HEADER + ENTRY * (counts.len() + 1) + operations.len() + schedule.len();
     if room < length {
-        return not_written(11, 0);
+        return not_written(Refusal::TooSmall, 0);
     }
     Writing {
         number: 0,
@@ -342,19 +392,19 @@ fn judge(
     ensures { λ r. ⌜ r ≡ writeOf threads keys (now (counts .entry)) (now (operations .entry)) (now (schedule .entry)) room ⌝ }
 {
     if is_outside(threads, Machine::THREADS) {
-        return not_written(2, 0);
+        return not_written(Refusal::Threads, 0);
     }
     if is_outside(keys, Machine::KEYS) {
-        return not_written(3, 0);
+        return not_written(Refusal::Keys, 0);
     }
     if is_disagreeing(threads, counts, operations.len()) {
-        return not_written(12, 0);
+        return not_written(Refusal::Lists, 0);
     }
     if Machine::OPERATIONS < operations.len() {
-        return not_written(6, 0);
+        return not_written(Refusal::TooManyOperations, 0);
     }
     if Machine::STEPS < schedule.len() {
-        return not_written(7, 0);
+        return not_written(Refusal::TooManySteps, 0);
     }
     judge_bodies(threads, keys, counts, operations, schedule, room)
 }
@@ -385,7 +435,8 @@ fn put_entry(out: &mut [u8], p: usize, offset: usize, count: usize)
 
 // An entry for each count, the first body at `body`.
 fn put_entries(out: &mut [u8], counts: &[u16], body: usize)
-    requires { ⌜ (length (now counts) ≤ mostThreads) × (entryAt (length (now counts)) ≤ length (now out)) × (body + sumTo (countOf (now counts)) (length (now counts)) < 65536) ⌝ }
+    requires { ⌜ (length (now counts) ≤ mostThreads) × (entryAt (length (now counts)) ≤ length (now out))
+        × (body + sumTo (countOf (now counts)) (length (now counts)) < 65536) ⌝ }
     ensures { λ r. ⌜ now (out .exit) ≡ sets (now (out .entry)) 2 (entries body (now (counts .entry))) ⌝ }
 {
     let mut offset = body;
@@ -412,10 +463,11 @@ fn put_bytes(out: &mut [u8], from: usize, bytes: &[u8])
 
 // The whole file, of contents that are right, where there is room.
 fn fill(threads: u8, keys: u8, counts: &[u16], operations: &[u8], schedule: &[u8], out: &mut [u8])
-    requires { ⌜ (length (now counts) ≡ threads) × (threads ≤ mostThreads) × (length (now operations) ≤ mostOperations) × (length (now schedule) ≤ mostSteps)
-        × (sumTo (countOf (now counts)) (length (now counts)) ≡ length (now operations))
+    requires { ⌜ (length (now counts) ≡ threads) × (threads ≤ mostThreads) × (length (now operations) ≤ mostOperations)
+        × (length (now schedule) ≤ mostSteps) × (sumTo (countOf (now counts)) (length (now counts)) ≡ length (now operations))
         × (length (fileOf threads keys (now counts) (now operations) (now schedule)) ≤ length (now out)) ⌝ }
-    ensures { λ r. ⌜ now (out .exit) ≡ sets (now (out .entry)) 0 (fileOf threads keys (now (counts .entry)) (now (operations .entry)) (now (schedule .entry))) ⌝ }
+    ensures { λ r. ⌜ now (out .exit) ≡ sets (now (out .entry)) 0
+        (fileOf threads keys (now (counts .entry)) (now (operations .entry)) (now (schedule .entry))) ⌝ }
 {
     let body = HEADER + ENTRY * (counts.len() + 1);
     let end = body + operations.len();
@@ -436,7 +488,8 @@ pub fn write(
     schedule: &[u8],
     out: &mut [u8],
 ) -> Writing
-    ensures { λ r. ⌜ r ≡ writeOf threads keys (now (counts .entry)) (now (operations .entry)) (now (schedule .entry)) (length (now (out .entry))) ⌝ }
+    ensures { λ r. ⌜ r ≡ writeOf threads keys (now (counts .entry)) (now (operations .entry)) (now (schedule .entry))
+        (length (now (out .entry))) ⌝ }
     ensures { λ r. ⌜ now (out .exit) ≡ sets (now (out .entry)) 0
         (writtenOf threads keys (now (counts .entry)) (now (operations .entry)) (now (schedule .entry)) (length (now (out .entry)))) ⌝ }
 {

@@ -2,7 +2,9 @@
 use libc::STDIN_FILENO;
 use libc::STDOUT_FILENO;
 ghost use mathlib.Core.Path.{_≡_};
+ghost use Prim.Native.Nat.{_+_};
 ghost use lib.ListN.{length};
+ghost use Rattle.runfile.specs.Contents.{longest};
 ghost use Rattle.io.specs.Counts.{Counts};
 
 // What reading came to: whether no read failed, and how many bytes are kept.
@@ -13,10 +15,10 @@ struct Kept {
 
 // One byte more than any accepted file has: a longer input is told from these (`kept-same` of the crate `runfile`).
 // Made here, so that no proof looks into so long a list.
-fn room() -> [u8; 4199]
-    ensures { λ r. ⌜ 4199 ≡ length r ⌝ }
+fn room() -> [u8; runfile::KEPT]
+    ensures { λ r. ⌜ longest + 1 ≡ length r ⌝ }
 {
-    [0; 4199]
+    [0; runfile::KEPT]
 }
 
 // Reads until the room is full or the input ends.

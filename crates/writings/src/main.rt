@@ -1,17 +1,20 @@
 // What the writer answers to a few lists, in the order of its tests, and the whole output afterwards.
+use figures::Machine;
 use libc::STDOUT_FILENO;
 ghost use mathlib.Core.Path.{_≡_};
+ghost use Prim.Native.Nat.{_+_};
 ghost use lib.ListN.{length};
+ghost use Rattle.figures.specs.Limits.{mostSteps};
 
 fn say(words: &[u8]) {
     io::write_all(STDOUT_FILENO, words);
 }
 
 // A schedule that is one step too long.
-fn long_schedule() -> [u8; 4097]
-    ensures { λ r. ⌜ 4097 ≡ length r ⌝ }
+fn long_schedule() -> [u8; Machine::STEPS + 1]
+    ensures { λ r. ⌜ mostSteps + 1 ≡ length r ⌝ }
 {
-    [0; 4097]
+    [0; Machine::STEPS + 1]
 }
 
 fn say_refusal(number: u32, place: usize) {
@@ -61,7 +64,7 @@ fn try_write(
 fn try_many(out: &mut [u8]) {
     let many = [65u16; 1];
     let none = [0u16; 1];
-    let calls = [0u8; 65];
+    let calls = [0u8; Machine::OPERATIONS + 1];
     let steps = long_schedule();
     try_write(1, 1, &many, &calls, &steps, out);
     try_write(1, 1, &none, b"", &steps, out);
@@ -71,7 +74,7 @@ fn try_many(out: &mut [u8]) {
 fn try_counts(out: &mut [u8]) {
     let none = [0u16; 1];
     let one = [1u16; 1];
-    let calls = [0u8; 65];
+    let calls = [0u8; Machine::OPERATIONS + 1];
     try_write(2, 1, &none, &calls, b"\x00\x00", out);
     try_write(1, 1, &one, b"", b"\x00\x00", out);
 }

@@ -17,7 +17,7 @@ mod boundary;
 mod refusal;
 
 pub use boundary::{Cells, Snapshot};
-pub use refusal::Refusal;
+pub use refusal::{number, Refusal};
 
 /// In results: not returned. In a snapshot: no value yet.
 pub const INVALID: u32 = u32::MAX;

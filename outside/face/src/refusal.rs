@@ -2,6 +2,23 @@
 
 use std::fmt;
 
+/// The numbers of document 01's table by name, as the library answers them; `ACCEPTED` where nothing was refused.
+pub mod number {
+    pub const ACCEPTED: u32 = 0;
+    pub const NO_HEAD: u32 = 1;
+    pub const THREADS: u32 = 2;
+    pub const KEYS: u32 = 3;
+    pub const TABLE_CUT_SHORT: u32 = 4;
+    pub const OFFSET: u32 = 5;
+    pub const TOO_MANY_OPERATIONS: u32 = 6;
+    pub const TOO_MANY_STEPS: u32 = 7;
+    pub const LENGTH: u32 = 8;
+    pub const OPERATION: u32 = 9;
+    pub const STEP: u32 = 10;
+    pub const TOO_SMALL: u32 = 11;
+    pub const LISTS: u32 = 12;
+}
+
 /// Why a file or the writer's lists were refused. A place is a position in the file, or in the writer's list.
 #[derive(Debug, Clone, Copy, PartialEq, Eq, Hash)]
 pub enum Refusal {
@@ -35,38 +52,38 @@ impl Refusal {
     /// An error if the number is one of a refusal.
     pub(crate) fn unless(number: u32, place: usize) -> Result<(), Refusal> {
         Err(match number {
-            0 => return Ok(()),
-            1 => Refusal::NoHead,
-            2 => Refusal::Threads,
-            3 => Refusal::Keys,
-            4 => Refusal::TableCutShort,
-            5 => Refusal::Offset(place),
-            6 => Refusal::TooManyOperations,
-            7 => Refusal::TooManySteps,
-            8 => Refusal::Length,
-            9 => Refusal::Operation(place),
-            10 => Refusal::Step(place),
-            11 => Refusal::TooSmall,
-            12 => Refusal::Lists,
-            _ => unreachable!("the library is proved to give no number {number}"),
+            number::ACCEPTED => return Ok(()),
+            number::NO_HEAD => Refusal::NoHead,
+            number::THREADS => Refusal::Threads,
+            number::KEYS => Refusal::Keys,
+            number::TABLE_CUT_SHORT => Refusal::TableCutShort,
+            number::OFFSET => Refusal::Offset(place),
+            number::TOO_MANY_OPERATIONS => Refusal::TooManyOperations,
+            number::TOO_MANY_STEPS => Refusal::TooManySteps,
+            number::LENGTH => Refusal::Length,
+            number::OPERATION => Refusal::Operation(place),
+            number::STEP => Refusal::Step(place),
+            number::TOO_SMALL => Refusal::TooSmall,
+            number::LISTS => Refusal::Lists,
+            other => unreachable!("the library is proved to give no number {other}"),
         })
     }
 
     /// The number of the document's table.
     pub fn number(self) -> u32 {
         match self {
-            Refusal::NoHead => 1,
-            Refusal::Threads => 2,
-            Refusal::Keys => 3,
-            Refusal::TableCutShort => 4,
-            Refusal::Offset(_) => 5,
-            Refusal::TooManyOperations => 6,
-            Refusal::TooManySteps => 7,
-            Refusal::Length => 8,
-            Refusal::Operation(_) => 9,
-            Refusal::Step(_) => 10,
-            Refusal::TooSmall => 11,
-            Refusal::Lists => 12,
+            Refusal::NoHead => number::NO_HEAD,
+            Refusal::Threads => number::THREADS,
+            Refusal::Keys => number::KEYS,
+            Refusal::TableCutShort => number::TABLE_CUT_SHORT,
+            Refusal::Offset(_) => number::OFFSET,
+            Refusal::TooManyOperations => number::TOO_MANY_OPERATIONS,
+            Refusal::TooManySteps => number::TOO_MANY_STEPS,
+            Refusal::Length => number::LENGTH,
+            Refusal::Operation(_) => number::OPERATION,
+            Refusal::Step(_) => number::STEP,
+            Refusal::TooSmall => number::TOO_SMALL,
+            Refusal::Lists => number::LISTS,
         }
     }
 
@@ -100,3 +117,16 @@ impl fmt::Display for Refusal {
 }
 
 impl std::error::Error for Refusal {}
+
+#[cfg(test)]
+mod tests {
+    use super::*;
+
+    #[test]
+    fn each_number_has_its_case() {
+        assert_eq!(Refusal::unless(number::ACCEPTED, 7), Ok(()));
+        for n in number::NO_HEAD..=number::LISTS {
+            assert_eq!(Refusal::unless(n, 7).map_err(Refusal::number), Err(n));
+        }
+    }
+}

@@ -19,18 +19,18 @@ int main(void) {
     uint16_t counts[1] = {2};
     uint32_t results[8], log[4];
     pszenorad_read_answer r = pszenorad_read(file, sizeof file);
-    EXPECT(r.number == 0 && r.threads == 1 && r.keys == 1 && r.counts[0] == 2 && r.counts[7] == 0);
+    EXPECT(r.number == PSZENORAD_ACCEPTED && r.threads == 1 && r.keys == 1 && r.counts[0] == 2 && r.counts[7] == 0);
     EXPECT(r.operations_at == 10 && r.operations == 2 && r.schedule_at == 12 && r.steps == 11);
     r = pszenorad_read(file, sizeof file - 1);
-    EXPECT(r.number == 8 && r.place == 0 && r.threads == 0);
+    EXPECT(r.number == PSZENORAD_LENGTH && r.place == 0 && r.threads == 0);
     pszenorad_write_answer w = pszenorad_write(1, 1, counts, 1, file + 10, 2, file + 12, 11, out, sizeof out);
-    EXPECT(w.number == 0 && w.length == sizeof file && memcmp(out, file, sizeof file) == 0);
+    EXPECT(w.number == PSZENORAD_ACCEPTED && w.length == sizeof file && memcmp(out, file, sizeof file) == 0);
     pszenorad_run_answer a = pszenorad_run(file, sizeof file, results, 8, log, 4);
-    EXPECT(a.number == 0 && a.entries == 2 && a.idle == 0 && a.snapshots == 0);
+    EXPECT(a.number == PSZENORAD_ACCEPTED && a.entries == 2 && a.idle == 0 && a.snapshots == 0);
     EXPECT(results[0] == 1 && results[4] == 0 && log[1] == 5 && log[3] == 8);
     pszenorad_snapshot table[1];
     a = pszenorad_run_lent(file, sizeof file, results, 8, log, 4, table, 1);
-    EXPECT(a.number == 0 && table[0].size == PSZENORAD_INVALID && table[0].cells[7].deletions == PSZENORAD_INVALID);
-    EXPECT(pszenorad_run(file, sizeof file, results, 7, log, 4).number == 11);
+    EXPECT(a.number == PSZENORAD_ACCEPTED && table[0].size == PSZENORAD_INVALID && table[0].cells[7].deletions == PSZENORAD_INVALID);
+    EXPECT(pszenorad_run(file, sizeof file, results, 7, log, 4).number == PSZENORAD_TOO_SMALL);
     return 0;
 }

@@ -13,7 +13,6 @@ insert-found-spec =
     (λ c κs. tt)
     (λ c. search needs)
     (λ c κs. tt)
-    (λ c κs. tt)
     (λ c. simp (c .to .ensures, c .before .enum-told .given .1))
     (λ c. simp (c .update-then .ensures, c .before .insertion .ensures, c .before .before .before .c .given .1))
-    (λ c. simp (c .update-then2 .ensures, c .before .deletion .ensures, c .before .before .before .c2 .given .1)))
+    (λ c. simp (c .raise-then-help .ensures, c .before .before .c2 .given .1)))

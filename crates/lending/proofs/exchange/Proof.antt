@@ -63,7 +63,7 @@ use Rattle.calculator.proofs.exchange.witnessed as saw
 use Rattle.calculator.proofs.exchange.witnessed.Symbol as saw-def
 use Rattle.calculator.proofs.exchange.witnessed.Symbol.{name as #witnessed}
 use Rattle.calculator.proofs.exchange.witnessed.Met as saw-thm
-use Rattle.lending.specs.Lent.{lentAt, exchangedIn}
+use Rattle.calculator.specs.Requests.{recordIn, exchangedIn}
 use Rattle.lending.proofs.beyond as out
 use Rattle.lending.proofs.beyond.Symbol as out-def
 use Rattle.lending.proofs.beyond.Symbol.{name as #beyond}
@@ -86,7 +86,7 @@ scaled ys n room small = omega (arith, ltb→lt (n .0) (length ys) small, room .
 
 -- and one that is not
 module _ (ys : List Snapshot) (n : SnapshotId) (x : Exchange) (large : Tr (not (ltb (n .0) (length ys)))) where
-  none-found : {r : ℕ} → r ≡ witnessedOf x absent → r ≡ witnessedOf x (lentAt ys n)
+  none-found : {r : ℕ} → r ≡ witnessedOf x absent → r ≡ witnessedOf x (recordIn ys n)
   none-found e = e ∙ ap (witnessedOf x) (sym (getD-beyond ys (n .0) (length ys) refl (nltb→le _ _ large) absent))
 
   none-changed : ys ≡ exchangedIn ys n x
@@ -121,7 +121,7 @@ module _ {M : Type 1} (𝓤 : URA M) (H : Heap 𝓤) (A : Atoms 𝓤) (W : Given
   s = sliceVal (b, o) (length ys)
 
   abbrev elem : Snapshot
-  elem = lentAt ys n
+  elem = recordIn ys n
 
   abbrev mach : Val
   mach = LL.val T.the-type T′.the-laws elem

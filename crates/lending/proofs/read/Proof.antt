@@ -42,7 +42,7 @@ use Rattle.terms.proofs.SnapshotId.Laws as N′
 use Rattle.figures.specs.declared.Snapshot.{Snapshot}
 use Rattle.figures.proofs.Snapshot as T
 use Rattle.figures.proofs.Snapshot.Laws as T′
-use Rattle.lending.specs.Lent.{lentAt}
+use Rattle.calculator.specs.Requests.{recordIn}
 use Rattle.calculator.specs.Exchanges.{absent}
 use Rattle.lending.proofs.Answered.{answers}
 use Rattle.lending.proofs.no_snapshot as none
@@ -85,7 +85,7 @@ module _ {M : Type 1} (𝓤 : URA M) (H : Heap 𝓤) (A : Atoms 𝓤) (W : Given
   id-val = LL.val N.the-type N′.the-laws n
 
   abbrev elem : Snapshot
-  elem = lentAt ys n
+  elem = recordIn ys n
 
   abbrev mach : Val
   mach = LL.val T.the-type T′.the-laws elem

@@ -40,13 +40,10 @@ start-requires c κs = search needs
 rest-of-requires : tie.Need-rest-of-requires
 rest-of-requires c κs = search needs
 
-steps-from-requires : tie.Need-steps-from-requires
-steps-from-requires c κs = search needs
-
 returns : tie.Need-returns
 returns c =
-    let a = c .before .before .before .before .before .before .before .before .before .before .before .args in
-    opened-is (a .file .now) (a .results) (a .log) (a .table) (c .before .before .before .before .before .before .before .before .before .read .ensures) (c .before .before .before .before .before .before .lacks-room .ensures) (c .before .before .before .before .before .before .before .sizes-in .ensures) (c .before .before .before .before .before .lowest .ensures) (c .before .before .start .ensures) (c .before .rest-of .ensures) (c .steps-from .ensures)
+    let a = c .before .before .before .before .before .before .before .before .before .before .args in
+    opened-is (a .file .now) (a .results) (a .log) (a .table) (c .before .before .before .before .before .before .before .before .read .ensures) (c .before .before .before .before .before .lacks-room .ensures) (c .before .before .before .before .before .before .sizes-in .ensures) (c .before .before .before .before .lowest .ensures) (c .before .start .ensures) (c .rest-of .ensures)
 
 pub opening-spec : {M : Type 1} → statement M
 opening-spec =
@@ -64,5 +61,4 @@ opening-spec =
     part-start-end
     start-requires
     rest-of-requires
-    steps-from-requires
     returns)

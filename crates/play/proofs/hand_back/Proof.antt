@@ -1,11 +1,16 @@
+use Prim.Native.Nat.{ℕ}
 use mathlib.Core.Path.{_≡_, sym, ap, _∙_}
 use mathlib.Core.Bool.{false}
-use mathlib.Core.List.{List}
-use lib.ListN.{length}
+use mathlib.Core.List.{List, []}
+use native.Mathlib.Omega.{arith}
+use lib.ListN.{length, take}
 use lib.Seq.{sets}
 use Rattle.history.specs.Order.{Entry}
+use Rattle.machine.specs.Parts.{wholeOf}
 use Rattle.places.specs.Written.{numbersOf}
-use Rattle.play.specs.Run.{lacks}
+use Rattle.places.specs.declared.writing.Logged.{Logged}
+use Rattle.places.proofs.Held.{held-most}
+use Rattle.play.specs.Run.{foursOf, lacks}
 use Rattle.play.proofs.Decided.{has-room, lacking, lacking-none, unwritten, is-written, log-written, hands-told}
 use borrow.Author.Needs.{needs}
 use Rattle.play.proofs.hand_back.Statement.{statement}
@@ -24,17 +29,22 @@ returns c =
     let n = lacking (a .operations) (length (a .results .now)) (length (a .log .now)) l in
     (c .refusal .ensures ∙ rw l, (unwritten (a .results .now) _ n, unwritten (a .log .now) _ n))
 
+held-requires : tie.Need-held-requires
+held-requires c κs = search needs
+
 write-results-requires : tie.Need-write-results-requires
 write-results-requires c κs =
-    let a = c .before .before .before .before .before .before .args in
-    let h = has-room (a .operations) (length (a .results .now)) (length (a .log .now)) (sym (c .before .before .before .lacks-room .ensures) ∙ c .before .before .if1 .left) in
-    (h .0, h .1)
+    let a = c .before .before .before .before .before .before .before .before .args in
+    let s = c .before .before .before .before in
+    let h = has-room (a .operations) (length (a .results .now)) (length (a .log .now)) (sym (s .before .lacks-room .ensures) ∙ s .if1 .left) in
+    let e = c .before .held .ensures in
+    (omega (arith, e, held-most (a .operations)), omega (arith, e, h .0))
 
 write-log-requires : tie.Need-write-log-requires
 write-log-requires c κs = search needs
 
-cast-t17 : tie.Need-cast-t17
-cast-t17 c = search needs
+announced-requires : tie.Need-announced-requires
+announced-requires c κs = search needs
 
 same-length : tie.Need-same-length
 same-length c = search needs
@@ -44,16 +54,23 @@ same-length-2 c = search needs
 
 returns-2 : tie.Need-returns-2
 returns-2 c =
-    let a = c .before .before .before .before .before .before .before .before .before .before .before .before .before .before .before .before .args in
+    let s = c .before .before .before .before .before .before .before .before .before .before .before .before .before in
+    let a = s .before .before .before .before .args in
     let r = length (a .results .now) in
     let l = length (a .log .now) in
-    let e : lacks (a .operations) r l ≡ false = sym (c .before .before .before .before .before .before .before .before .before .before .before .before .before .lacks-room .ensures) ∙ c .before .before .before .before .before .before .before .before .before .before .before .before .if1 .left in
+    let e : lacks (a .operations) r l ≡ false = sym (s .before .lacks-room .ensures) ∙ s .if1 .left in
     let h = has-room (a .operations) r l e in
     let z = lacking-none (a .operations) r l e in
-    let w = c .before .before .before .before .before .write-log .ensures in
-    let all = log-written (a .m) (a .operations) l (h .0) (h .2) in (
-      hands-told (a .m) (a .operations) r l e (w .0 ∙ ap length all),
-      (c .before .before .before .before .before .before .before .before .before .write-results .ensures ∙ is-written (a .results .now) _ z, w .1 ∙ ap (λ (es : List Entry). sets (a .log .now) 0 (numbersOf es)) all ∙ is-written (a .log .now) _ z),
+    let w = c .before .before .before .before .write-log .ensures in
+    let n = c .before .before .before .before .before .before .before .before .before .before .held .ensures in
+    let all = log-written (a .m) (a .operations) l (h .1) in (
+      rw (c .announced .ensures) (hands-told (wholeOf (a .m) [] []) (a .operations) r l e (ap (λ (g : Logged). g .entries) (w .0) ∙ ap length all)),
+      (
+        c .before .before .before .before .before .before .before .before .write-results .ensures
+            ∙ ap (λ (k : ℕ). sets (a .results .now) 0 (foursOf (take k (a .m .records)))) n
+            ∙ is-written (a .results .now) _ z,
+        w .1 ∙ ap (λ (es : List Entry). sets (a .log .now) 0 (numbersOf es)) all ∙ is-written (a .log .now) _ z,
+      ),
     )
 
 pub hand-back-spec : {M : Type 1} → statement M
@@ -63,9 +80,10 @@ hand-back-spec =
     lacks-room-requires
     refusal-requires
     returns
+    held-requires
     write-results-requires
     write-log-requires
-    cast-t17
+    announced-requires
     same-length
     same-length-2
     returns-2)

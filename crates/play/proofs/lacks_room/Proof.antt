@@ -1,3 +1,5 @@
+use Rattle.places.proofs.Held.{held-most}
+use native.Mathlib.Omega.{arith}
 use borrow.Author.Tests.{lt-ltb, le-ltb}
 use borrow.Author.Needs.{needs}
 use Rattle.play.proofs.lacks_room.Statement.{statement}
@@ -7,8 +9,8 @@ pub lacks-room-spec : {M : Type 1} → statement M
 lacks-room-spec =
     tie.close
     (tie.spec
-    (λ c. simp (lt-ltb _ _ (c .if1 .taken)))
-    (λ c. search needs)
-    (λ c. simp (le-ltb _ _ (c .before .if1 .left), lt-ltb _ _ (c .if2 .taken)))
-    (λ c. search needs)
-    (λ c. simp (le-ltb _ _ (c .before .if1 .left), le-ltb _ _ (c .if2 .left))))
+    (λ c κs. search needs)
+    (λ c. omega (arith, c .held .ensures, held-most (c .before .args .operations)))
+    (λ c. simp (← c .before .held .ensures, lt-ltb _ _ (c .if1 .taken)))
+    (λ c. omega (arith, c .before .held .ensures, held-most (c .before .before .args .operations)))
+    (λ c. simp (← c .before .held .ensures, le-ltb _ _ (c .if1 .left))))

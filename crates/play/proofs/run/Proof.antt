@@ -4,6 +4,8 @@ use mathlib.Core.Bool.{true}
 use lib.ListN.{length}
 use Rattle.runfile.specs.declared.Reading.{Reading}
 use Rattle.runfile.specs.Read.{readOf}
+use Rattle.machine.specs.declared.Rest.{Rest}
+use Rattle.machine.specs.Parts.{wholeOf}
 use Rattle.play.specs.declared.Told.{Told}
 use Rattle.play.specs.Run.{machineOf, countOf, numberOf, refused, lacks, handedTold}
 use Rattle.play.proofs.Accepted.{demand-held}
@@ -52,6 +54,9 @@ returns-2 c =
 played-requires : tie.Need-played-requires
 played-requires c κs = search needs
 
+rest-of-requires : tie.Need-rest-of-requires
+rest-of-requires c κs = search needs
+
 hand-back-requires : tie.Need-hand-back-requires
 hand-back-requires c κs = search needs
 
@@ -63,14 +68,17 @@ same-length-2 c = search needs
 
 returns-3 : tie.Need-returns-3
 returns-3 c =
-    let a = c .before .before .before .before .before .before .before .before .before .before .before .before .before .before .before .before .args in
+    let a = c .before .before .before .before .before .before .before .before .before .before .before .before .before .before .before .before .before .args in
     let f = a .file .now in
     let r = length (a .results .now) in
     let l = length (a .log .now) in
-    let e = c .before .before .before .before .before .before .before .before .before .before .before .before .read .ensures in
-    let z : readOf f .number ≡ 0 = ap (λ (r : Reading). r .number) (sym e) ∙ c .before .before .before .before .before .before .before .before .before .before .if1 .left in
+    let e = c .before .before .before .before .before .before .before .before .before .before .before .before .before .read .ensures in
+    let z : readOf f .number ≡ 0 = ap (λ (r : Reading). r .number) (sym e) ∙ c .before .before .before .before .before .before .before .before .before .before .before .if1 .left in
     let h = c .before .before .before .before .hand-back .ensures in
-    let k = hands-file f r l z (c .before .before .before .before .before .before .before .played .ensures) (ap (λ (r : Reading). r .operations) e) in
+    let m = c .before .before .before .before .before .before .before .before .played in
+    let is : wholeOf (c .before .before .before .before .before .before .before .rest-of .result) (m .result .calculator .counters) (m .result .calculator .snapshots) ≡ machineOf f =
+    ap (λ (x : Rest). wholeOf x (m .result .calculator .counters) (m .result .calculator .snapshots)) (c .before .before .before .before .before .before .before .rest-of .ensures) ∙ m .ensures in
+    let k = hands-file f r l z is (ap (λ (r : Reading). r .operations) e) in
     (h .0 ∙ k .told, (h .1 .0 ∙ k .in-results (a .results .now), (h .1 .1 ∙ k .in-log (a .log .now), λ y. demand-held f z)))
 
 pub run-spec : {M : Type 1} → statement M
@@ -84,6 +92,7 @@ run-spec =
     refusal-requires-2
     returns-2
     played-requires
+    rest-of-requires
     hand-back-requires
     same-length
     same-length-2

@@ -2,7 +2,7 @@ use Prim.Native.Nat.{_+_, _-_, _*_, _≤_}
 use mathlib.Core.Path.{_≡_, refl, sym, ap, _∙_}
 use lib.ListN.{length, take, drop, length-set}
 use lib.Seq.{sets}
-use Rattle.play.specs.Run.{foursOf}
+use Rattle.play.specs.Run.{perOperation, foursOf}
 use Rattle.play.proofs.Results.{fours-on, fours-end}
 use native.Mathlib.Omega.{arith}
 use borrow.Author.Needs.{needs}
@@ -13,7 +13,7 @@ abbrev Inv-loop : tie.InvT-loop
 Inv-loop operations results₀ records i₀ results i =
     (i ≤ operations)
     × (length results ≡ length results₀)
-    × (sets results (4 * i) (foursOf (drop i (take operations records))) ≡ sets results₀ 0 (foursOf (take operations records)))
+    × (sets results (perOperation * i) (foursOf (drop i (take operations records))) ≡ sets results₀ 0 (foursOf (take operations records)))
 
 abbrev μ-loop : tie.MeasureT-loop
 μ-loop operations results₀ records i₀ results i = operations - i

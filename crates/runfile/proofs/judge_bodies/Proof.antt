@@ -1,8 +1,9 @@
 use mathlib.Core.Path.{ap, _∙_}
 use lib.ListN.{length}
 use borrow.Author.Tests.{lt-ltb, le-ltb}
-use Rattle.runfile.specs.Layout.{operationRight, stepRight, fileOf}
-use Rattle.runfile.specs.Write.{unwritten, wrongIn}
+use Rattle.runfile.specs.Layout.{fileOf}
+use Rattle.runfile.specs.Shared.{wrongOperationIn, wrongStepIn}
+use Rattle.runfile.specs.Write.{unwritten}
 use Rattle.runfile.proofs.File.{length-file}
 use native.Mathlib.Omega.{arith}
 use borrow.Author.Needs.{needs}
@@ -20,7 +21,7 @@ returns c =
     let o = c .before .before .before .before .before .before in
     let ops = o .args .operations .now in
     let steps = o .args .schedule .now in
-    let on = lt-ltb (wrongIn (operationRight (o .args .keys) ops) ops) (length ops) (omega arith) in
+    let on = lt-ltb (wrongOperationIn (o .args .keys) ops 0 (length ops)) (length ops) (omega arith) in
     simp on (c .not-written .ensures ∙ ap (unwritten 9) (c .before .before .wrong-operation .ensures))
 
 wrong-step-requires : tie.Need-wrong-step-requires
@@ -34,8 +35,8 @@ returns-2 c =
     let o = c .before .before .before .before .before .before .before .before in
     let ops = o .args .operations .now in
     let steps = o .args .schedule .now in
-    let past9 = le-ltb (wrongIn (operationRight (o .args .keys) ops) ops) (length ops) (omega arith) in
-    let on = lt-ltb (wrongIn (stepRight (o .args .threads) steps) steps) (length steps) (omega arith) in
+    let past9 = le-ltb (wrongOperationIn (o .args .keys) ops 0 (length ops)) (length ops) (omega arith) in
+    let on = lt-ltb (wrongStepIn (o .args .threads) steps 0 (length steps)) (length steps) (omega arith) in
     simp (past9, on) (c .not-written2 .ensures ∙ ap (unwritten 10) (c .before .before .wrong-step .ensures))
 
 add-length : tie.Need-add-length
@@ -61,8 +62,8 @@ returns-3 c =
     let o = c .before .before .before .before .before .before .before .before .before in
     let ops = o .args .operations .now in
     let steps = o .args .schedule .now in
-    let past9 = le-ltb (wrongIn (operationRight (o .args .keys) ops) ops) (length ops) (omega arith) in
-    let past10 = le-ltb (wrongIn (stepRight (o .args .threads) steps) steps) (length steps) (omega arith) in
+    let past9 = le-ltb (wrongOperationIn (o .args .keys) ops 0 (length ops)) (length ops) (omega arith) in
+    let past10 = le-ltb (wrongStepIn (o .args .threads) steps 0 (length steps)) (length steps) (omega arith) in
     let e = length-file (o .args .threads) (o .args .keys) (o .args .counts .now) ops steps (o .pre .0) in
     let on = lt-ltb (o .args .room) (length (fileOf (o .args .threads) (o .args .keys) (o .args .counts .now) ops steps)) (omega arith) in
     simp (past9, past10, on) (c .not-written3 .ensures)
@@ -72,8 +73,8 @@ returns-4 c =
     let o = c .before .before .before .before .before .before .before .before in
     let ops = o .args .operations .now in
     let steps = o .args .schedule .now in
-    let past9 = le-ltb (wrongIn (operationRight (o .args .keys) ops) ops) (length ops) (omega arith) in
-    let past10 = le-ltb (wrongIn (stepRight (o .args .threads) steps) steps) (length steps) (omega arith) in
+    let past9 = le-ltb (wrongOperationIn (o .args .keys) ops 0 (length ops)) (length ops) (omega arith) in
+    let past10 = le-ltb (wrongStepIn (o .args .threads) steps 0 (length steps)) (length steps) (omega arith) in
     let e = length-file (o .args .threads) (o .args .keys) (o .args .counts .now) ops steps (o .pre .0) in
     let past11 = le-ltb (o .args .room) (length (fileOf (o .args .threads) (o .args .keys) (o .args .counts .now) ops steps)) (omega arith) in
     simp (past9, past10, past11) (simp (e, o .pre .0))

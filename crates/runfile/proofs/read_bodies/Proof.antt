@@ -28,8 +28,8 @@ add-operations-at-2 c = search needs
 wrong-operation-requires : tie.Need-wrong-operation-requires
 wrong-operation-requires c κs = search needs
 
-refusal-requires : tie.Need-refusal-requires
-refusal-requires c κs = search needs
+not-read-requires : tie.Need-not-read-requires
+not-read-requires c κs = search needs
 
 returns : tie.Need-returns
 returns c =
@@ -37,7 +37,7 @@ returns c =
     let f = s .args .file .now in
     let e : c .before .before .wrong-operation .result ≡ wrongOperation f = simp (c .before .before .before .wide .ensures .0, s .pre .4) at (c .before .before .wrong-operation .ensures) in
     let on = lt-ltb (wrongOperation f) (scheduleIn f) (omega arith) in
-    simp on (c .refusal .ensures ∙ ap (refused 9) e)
+    simp on (c .not-read .ensures ∙ ap (refused 9) e)
 
 add-end : tie.Need-add-end
 add-end c = search needs
@@ -45,8 +45,8 @@ add-end c = search needs
 wrong-step-requires : tie.Need-wrong-step-requires
 wrong-step-requires c κs = search needs
 
-refusal-requires-2 : tie.Need-refusal-requires-2
-refusal-requires-2 c κs = search needs
+not-read-requires-2 : tie.Need-not-read-requires-2
+not-read-requires-2 c κs = search needs
 
 returns-2 : tie.Need-returns-2
 returns-2 c =
@@ -56,7 +56,7 @@ returns-2 c =
     let e′ : c .before .before .wrong-step .result ≡ wrongStep f = simp (s .pre .4, s .pre .5) at (c .before .before .wrong-step .ensures) in
     let past = le-ltb (wrongOperation f) (scheduleIn f) (omega arith) in
     let on = lt-ltb (wrongStep f) (scheduleIn f + stepsIn f) (omega arith) in
-    simp (past, on) (c .refusal2 .ensures ∙ ap (refused 10) e′)
+    simp (past, on) (c .not-read2 .ensures ∙ ap (refused 10) e′)
 
 wide-requires-2 : tie.Need-wide-requires-2
 wide-requires-2 c κs = search needs
@@ -85,11 +85,11 @@ read-bodies-spec =
     mul-operations-at
     add-operations-at-2
     wrong-operation-requires
-    refusal-requires
+    not-read-requires
     returns
     add-end
     wrong-step-requires
-    refusal-requires-2
+    not-read-requires-2
     returns-2
     wide-requires-2
     take-counts-requires

@@ -26,27 +26,27 @@ wrong-entry-requires c κs = search needs
 add-if1 : tie.Need-add-if1
 add-if1 c = search needs
 
-mul-refusal : tie.Need-mul-refusal
-mul-refusal c = search needs
+mul-not-read : tie.Need-mul-not-read
+mul-not-read c = search needs
 
-add-refusal : tie.Need-add-refusal
-add-refusal c = search needs
+add-not-read : tie.Need-add-not-read
+add-not-read c = search needs
 
-refusal-requires : tie.Need-refusal-requires
-refusal-requires c κs = search needs
+not-read-requires : tie.Need-not-read-requires
+not-read-requires c κs = search needs
 
 returns : tie.Need-returns
 returns c =
     let s = c .before .before .before .before .before .before in
     let f = s .args .file .now in
     let on = lt-ltb (wrongEntry f) (threadsIn f + 1) (omega arith) in
-    simp on (c .refusal .ensures ∙ ap (λ (i : ℕ). refused 5 (entryAt i)) (c .before .before .wrong-entry .ensures))
+    simp on (c .not-read .ensures ∙ ap (λ (i : ℕ). refused 5 (entryAt i)) (c .before .before .wrong-entry .ensures))
 
 sum-counts-requires : tie.Need-sum-counts-requires
 sum-counts-requires c κs = search needs
 
-refusal-requires-2 : tie.Need-refusal-requires-2
-refusal-requires-2 c κs = search needs
+not-read-requires-2 : tie.Need-not-read-requires-2
+not-read-requires-2 c κs = search needs
 
 returns-2 : tie.Need-returns-2
 returns-2 c =
@@ -55,7 +55,7 @@ returns-2 c =
     let e6 : c .before .before .sum-counts .result ≡ operationsIn f = simp (c .before .before .before .before .before .wide .ensures .0) at (c .before .before .sum-counts .ensures .0) in
     let past5 = le-ltb (wrongEntry f) (threadsIn f + 1) (omega arith) in
     let on = lt-ltb mostOperations (operationsIn f) (omega arith) in
-    simp (past5, on) (c .refusal2 .ensures)
+    simp (past5, on) (c .not-read2 .ensures)
 
 mul-word : tie.Need-mul-word
 mul-word c = search needs
@@ -69,8 +69,8 @@ add-word-2 c = search needs
 word-requires : tie.Need-word-requires
 word-requires c κs = search needs
 
-refusal-requires-3 : tie.Need-refusal-requires-3
-refusal-requires-3 c κs = search needs
+not-read-requires-3 : tie.Need-not-read-requires-3
+not-read-requires-3 c κs = search needs
 
 returns-3 : tie.Need-returns-3
 returns-3 c =
@@ -81,7 +81,7 @@ returns-3 c =
     let past5 = le-ltb (wrongEntry f) (threadsIn f + 1) (omega arith) in
     let past6 = le-ltb mostOperations (operationsIn f) (omega arith) in
     let on = lt-ltb mostSteps (stepsIn f) (omega arith) in
-    simp (past5, past6, on) (c .refusal3 .ensures)
+    simp (past5, past6, on) (c .not-read3 .ensures)
 
 mul-word-2 : tie.Need-mul-word-2
 mul-word-2 c = search needs
@@ -95,8 +95,8 @@ word-requires-2 c κs = search needs
 add-if4 : tie.Need-add-if4
 add-if4 c = search needs
 
-refusal-requires-4 : tie.Need-refusal-requires-4
-refusal-requires-4 c κs = search needs
+not-read-requires-4 : tie.Need-not-read-requires-4
+not-read-requires-4 c κs = search needs
 
 returns-4 : tie.Need-returns-4
 returns-4 c =
@@ -109,7 +109,7 @@ returns-4 c =
     let past6 = le-ltb mostOperations (operationsIn f) (omega arith) in
     let past7 = le-ltb mostSteps (stepsIn f) (omega arith) in
     let on = ne-eqb (length f) (scheduleIn f + stepsIn f) (λ e. omega arith) in
-    simp (past5, past6, past7, on) (c .refusal4 .ensures)
+    simp (past5, past6, past7, on) (c .not-read4 .ensures)
 
 read-bodies-requires : tie.Need-read-bodies-requires
 read-bodies-requires c κs =
@@ -143,24 +143,24 @@ read-table-spec =
     add-wrong-entry
     wrong-entry-requires
     add-if1
-    mul-refusal
-    add-refusal
-    refusal-requires
+    mul-not-read
+    add-not-read
+    not-read-requires
     returns
     sum-counts-requires
-    refusal-requires-2
+    not-read-requires-2
     returns-2
     mul-word
     add-word
     add-word-2
     word-requires
-    refusal-requires-3
+    not-read-requires-3
     returns-3
     mul-word-2
     add-word-3
     word-requires-2
     add-if4
-    refusal-requires-4
+    not-read-requires-4
     returns-4
     read-bodies-requires
     returns-5)

@@ -4,6 +4,7 @@ use mathlib.Core.List.{_++_}
 use native.Mathlib.Nat.{sub-zero}
 use lib.ListN.{length, length-set, replicate}
 use lib.Seq.{sets}
+use Rattle.figures.specs.Limits.{mostThreads}
 use Rattle.runfile.specs.Rows.{listFrom}
 use Rattle.runfile.specs.Layout.{countIn}
 use Rattle.runfile.proofs.Laws.{list-end, length-list, padded, store-on}
@@ -14,8 +15,8 @@ use Rattle.runfile.proofs.take_counts.Tie as tie
 
 abbrev Inv-loop : tie.InvT-loop
 Inv-loop file n counts₀ i₀ counts i =
-    (i ≤ n) × (length counts ≡ 8)
-    × (sets counts i (listFrom (countIn file) (n - i) i) ≡ listFrom (countIn file) n 0 ++ replicate (8 - n) 0)
+    (i ≤ n) × (length counts ≡ mostThreads)
+    × (sets counts i (listFrom (countIn file) (n - i) i) ≡ listFrom (countIn file) n 0 ++ replicate (mostThreads - n) 0)
 
 abbrev μ-loop : tie.MeasureT-loop
 μ-loop file n counts₀ i₀ counts i = n - i
@@ -26,7 +27,7 @@ loop-holds c =
     let vs = listFrom (countIn (c .before .args .file .now)) n 0 in (
       omega arith,
       refl,
-      rw sub-zero (rw length-list at (padded vs 8 (rw length-list (omega arith)))),
+      rw sub-zero (rw length-list at (padded vs mostThreads (rw length-list (omega arith)))),
     )
 
 mul-word : tie.Need-mul-word Inv-loop μ-loop

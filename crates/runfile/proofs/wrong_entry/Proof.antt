@@ -1,6 +1,7 @@
 use Prim.Native.Nat.{_+_, _-_, _*_, _≤_}
 use mathlib.Core.Path.{_≡_, sym, _∙_}
 use borrow.Author.Tests.{eq-eqb, ne-eqb}
+use Rattle.figures.specs.Limits.{mostThreads}
 use Rattle.runfile.specs.Rows.{firstBadIn, sumTo}
 use Rattle.runfile.specs.Layout.{bodyAt, offsetIn, countIn}
 use Rattle.runfile.specs.Read.{threadsIn, offsetRight, wrongEntry}
@@ -12,7 +13,7 @@ use Rattle.runfile.proofs.wrong_entry.Tie as tie
 
 abbrev Inv-loop : tie.InvT-loop
 Inv-loop file n i₀ end₀ i end =
-    (i ≤ n) × (end ≤ 38 + 65535 * i)
+    (i ≤ n) × (end ≤ bodyAt mostThreads + 65535 * i)
     × (end ≡ bodyAt (threadsIn file) + sumTo (countIn file) i)
     × (firstBadIn (offsetRight file) i n ≡ wrongEntry file)
 
