@@ -31,6 +31,20 @@ enum pszenorad_refusal {
     PSZENORAD_LISTS = 12                 /* the writer's lists disagree */
 };
 
+/* What stands where among the numbers of one operation in results, and how many they are. The raiser is the thread that
+   raised the counter of this update, perhaps another than its own; PSZENORAD_INVALID for anything but a raised update. */
+enum {
+    PSZENORAD_ANSWER,
+    PSZENORAD_FIRST,
+    PSZENORAD_LAST,
+    PSZENORAD_OWN,
+    PSZENORAD_RAISER,
+    PSZENORAD_PER_OPERATION
+};
+
+/* The same of one entry of the log. */
+enum { PSZENORAD_LOG_OPERATION, PSZENORAD_LOG_STEP, PSZENORAD_PER_ENTRY };
+
 /* number is 0 where the file is accepted; else number and place of the refusal, and every other number 0 */
 typedef struct {
     uint32_t number;
@@ -75,7 +89,7 @@ pszenorad_write_answer pszenorad_write(uint8_t threads, uint8_t keys, const uint
                                        const uint8_t *operations, size_t operations_length, const uint8_t *schedule,
                                        size_t schedule_length, uint8_t *out, size_t out_length);
 
-/* results: 4 numbers per operation; log: 2 per entry */
+/* room needed: PSZENORAD_PER_OPERATION numbers per operation in results, PSZENORAD_PER_ENTRY in log */
 pszenorad_run_answer pszenorad_run(const uint8_t *file, size_t length, uint32_t *results, size_t results_length,
                                    uint32_t *log, size_t log_length);
 

@@ -283,7 +283,7 @@ fn update_next(x: UpdateNext, u: Update, a: After) -> Next
 {
     match x {
         UpdateNext::Then(p) => to(Point::Updating(p, u, a)),
-        UpdateNext::Done => afterwards(a),
+        UpdateNext::Done(_) => afterwards(a),
     }
 }
 

@@ -40,11 +40,11 @@ exchangedIn t n x = set t (n .0) (exchangedOf x (recordIn t n))
 abbrev pub updateRequest : UpdatePoint → Cell → Target → Request
 updateRequest ReadCount j c = Count j
 updateRequest RaiseCount j c = Raise j c
-updateRequest ReadCurrent j c = Nothing
-updateRequest (ReadFlag n) j c = Flag n
-updateRequest (ReadAgain n) j c = Count j
-updateRequest (ReadCell n) j c = Value n j
-updateRequest (Forward n known) j c = Exchanges n (OfCell j known (c .0))
+updateRequest (ReadCurrent raised) j c = Nothing
+updateRequest (ReadFlag raised n) j c = Flag n
+updateRequest (ReadAgain raised n) j c = Count j
+updateRequest (ReadCell raised n) j c = Value n j
+updateRequest (Forward raised n known) j c = Exchanges n (OfCell j known (c .0))
 
 -- by a thread that has read the values `seen` for its sum; an announcement exchanges nothing where another snapshot is current
 abbrev pub sizeRequest : SizePoint → SnapshotId → List Counts → Request

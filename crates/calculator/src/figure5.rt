@@ -36,53 +36,53 @@ pub fn read_count(c: Target, s: Sight) -> UpdateMove
     if s.count == expected {
         on_to(UpdatePoint::RaiseCount)
     } else {
-        on_to(UpdatePoint::ReadCurrent)
+        on_to(UpdatePoint::ReadCurrent(false))
     }
 }
 
-// Line 79: exchange c-1 for c.
+// Line 79: exchange c-1 for c; this call raised the counter if that succeeded.
 pub fn raise_count(c: Target, s: Sight) -> UpdateMove
     ensures { λ r. ⌜ r ≡ raiseCount c s ⌝ }
 {
     let expected = before(c);
     if s.count == expected {
-        let next = UpdateNext::Then(UpdatePoint::ReadCurrent);
+        let next = UpdateNext::Then(UpdatePoint::ReadCurrent(true));
         UpdateMove {
             next: next,
             deed: UpdateDeed::Raises,
         }
     } else {
-        on_to(UpdatePoint::ReadCurrent)
+        on_to(UpdatePoint::ReadCurrent(false))
     }
 }
 
 // Line 80: read which snapshot is current.
-pub fn read_current(s: Sight) -> UpdateMove
-    ensures { λ r. ⌜ r ≡ readCurrent s ⌝ }
+pub fn read_current(raised: bool, s: Sight) -> UpdateMove
+    ensures { λ r. ⌜ r ≡ readCurrent raised s ⌝ }
 {
     let n = s.current;
-    on_to(UpdatePoint::ReadFlag(n))
+    on_to(UpdatePoint::ReadFlag(raised, n))
 }
 
 // Line 81: read its flag. If not collecting, done.
-pub fn read_flag(n: SnapshotId, s: Sight) -> UpdateMove
-    ensures { λ r. ⌜ r ≡ readFlag n s ⌝ }
+pub fn read_flag(raised: bool, n: SnapshotId, s: Sight) -> UpdateMove
+    ensures { λ r. ⌜ r ≡ readFlag raised n s ⌝ }
 {
     if s.collecting {
-        on_to(UpdatePoint::ReadAgain(n))
+        on_to(UpdatePoint::ReadAgain(raised, n))
     } else {
-        done()
+        done(raised)
     }
 }
 
 // Line 82: read the counter; unless it is c, done.
-pub fn read_again(n: SnapshotId, c: Target, s: Sight) -> UpdateMove
-    ensures { λ r. ⌜ r ≡ readAgain n c s ⌝ }
+pub fn read_again(raised: bool, n: SnapshotId, c: Target, s: Sight) -> UpdateMove
+    ensures { λ r. ⌜ r ≡ readAgain raised n c s ⌝ }
 {
     if s.count == c.0 {
-        on_to(UpdatePoint::ReadCell(n))
+        on_to(UpdatePoint::ReadCell(raised, n))
     } else {
-        done()
+        done(raised)
     }
 }
 
@@ -93,11 +93,11 @@ pub fn update(p: UpdatePoint, c: Target, s: Sight) -> UpdateMove
     match p {
         UpdatePoint::ReadCount => read_count(c, s),
         UpdatePoint::RaiseCount => raise_count(c, s),
-        UpdatePoint::ReadCurrent => read_current(s),
-        UpdatePoint::ReadFlag(n) => read_flag(n, s),
-        UpdatePoint::ReadAgain(n) => read_again(n, c, s),
-        UpdatePoint::ReadCell(n) => read_cell(n, c, s),
-        UpdatePoint::Forward(n, known) => forward(n, known, c, s),
+        UpdatePoint::ReadCurrent(raised) => read_current(raised, s),
+        UpdatePoint::ReadFlag(raised, n) => read_flag(raised, n, s),
+        UpdatePoint::ReadAgain(raised, n) => read_again(raised, n, c, s),
+        UpdatePoint::ReadCell(raised, n) => read_cell(raised, n, c, s),
+        UpdatePoint::Forward(raised, n, known) => forward(raised, n, known, c, s),
     }
 }
 

@@ -23,7 +23,7 @@ ghost use Rattle.figures.specs.declared.SizePoint.the-variants.{SumCell, FixSiz
 ghost use Rattle.figures.specs.declared.SizeNext.the-variants.{Goes};
 ghost use Rattle.figures.specs.Figure6.{onTo, done, behind, forwardFrom, readCell, forward, firstCell, nextCell, goTo, eachCell, collectNext, collectCell, collectSet, sumCell, sumOf, totalOf, fixSize};
 
-// An access that changes nothing: on to the next, or the end of the update.
+// An access that changes nothing: on to the next, or the end of the update. It reports `raised`: whether this call raised the counter.
 pub fn on_to(p: UpdatePoint) -> UpdateMove
     ensures { λ r. ⌜ r ≡ onTo p ⌝ }
 {
@@ -33,48 +33,48 @@ pub fn on_to(p: UpdatePoint) -> UpdateMove
     }
 }
 
-pub fn done() -> UpdateMove
-    ensures { λ r. ⌜ r ≡ done ⌝ }
+pub fn done(raised: bool) -> UpdateMove
+    ensures { λ r. ⌜ r ≡ done raised ⌝ }
 {
     UpdateMove {
-        next: UpdateNext::Done,
+        next: UpdateNext::Done(raised),
         deed: UpdateDeed::Reads,
     }
 }
 
 // Lines 97 and 98: while the cell is INVALID or below the target, exchange the known value.
-fn forward_from(n: SnapshotId, c: Target, v: u32) -> UpdateMove
-    ensures { λ r. ⌜ r ≡ forwardFrom n c v ⌝ }
+fn forward_from(raised: bool, n: SnapshotId, c: Target, v: u32) -> UpdateMove
+    ensures { λ r. ⌜ r ≡ forwardFrom raised n c v ⌝ }
 {
     if v == Machine::INVALID {
-        on_to(UpdatePoint::Forward(n, v))
+        on_to(UpdatePoint::Forward(raised, n, v))
     } else {
         if v < c.0 {
-            on_to(UpdatePoint::Forward(n, v))
+            on_to(UpdatePoint::Forward(raised, n, v))
         } else {
-            done()
+            done(raised)
         }
     }
 }
 
 // Line 96: read the cell.
-pub fn read_cell(n: SnapshotId, c: Target, s: Sight) -> UpdateMove
-    ensures { λ r. ⌜ r ≡ readCell n c s ⌝ }
+pub fn read_cell(raised: bool, n: SnapshotId, c: Target, s: Sight) -> UpdateMove
+    ensures { λ r. ⌜ r ≡ readCell raised n c s ⌝ }
 {
-    forward_from(n, c, s.cell)
+    forward_from(raised, n, c, s.cell)
 }
 
 // Line 99: exchange the known value for the target, ending on success and otherwise taking the witnessed value.
-pub fn forward(n: SnapshotId, known: u32, c: Target, s: Sight) -> UpdateMove
-    ensures { λ r. ⌜ r ≡ forward n known c s ⌝ }
+pub fn forward(raised: bool, n: SnapshotId, known: u32, c: Target, s: Sight) -> UpdateMove
+    ensures { λ r. ⌜ r ≡ forward raised n known c s ⌝ }
 {
     if s.cell == known {
         UpdateMove {
-            next: UpdateNext::Done,
+            next: UpdateNext::Done(raised),
             deed: UpdateDeed::Forwards(n),
         }
     } else {
-        forward_from(n, c, s.cell)
+        forward_from(raised, n, c, s.cell)
     }
 }
 

@@ -53,11 +53,11 @@ pub fn update_request(p: UpdatePoint, j: Cell, c: Target) -> Request
     match p {
         UpdatePoint::ReadCount => Request::Count(j),
         UpdatePoint::RaiseCount => Request::Raise(j, c),
-        UpdatePoint::ReadCurrent => Request::Nothing,
-        UpdatePoint::ReadFlag(n) => Request::Flag(n),
-        UpdatePoint::ReadAgain(_) => Request::Count(j),
-        UpdatePoint::ReadCell(n) => Request::Value(n, j),
-        UpdatePoint::Forward(n, known) => Request::Exchanges(n, Exchange::OfCell(j, known, c.0)),
+        UpdatePoint::ReadCurrent(_) => Request::Nothing,
+        UpdatePoint::ReadFlag(_, n) => Request::Flag(n),
+        UpdatePoint::ReadAgain(_, _) => Request::Count(j),
+        UpdatePoint::ReadCell(_, n) => Request::Value(n, j),
+        UpdatePoint::Forward(_, n, known) => Request::Exchanges(n, Exchange::OfCell(j, known, c.0)),
     }
 }
 

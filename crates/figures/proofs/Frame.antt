@@ -42,8 +42,14 @@ recordOf m o = getD (m .records) o noRecord
 abbrev pub localOf : Machine → ℕ → Local
 localOf m t = getD (m .locals) t noLocal
 
+-- what is handed back of an operation but its raiser, which others' steps tell (Raisers has that)
+abbrev pub outcomeIn : Record → Outcome
+outcomeIn r =
+    let x = r .outcome in
+    record { answer = x .answer; first = x .first; last = x .last; own = x .own; raiser = 0 }
+
 abbrev pub outcomeOf : Machine → ℕ → Outcome
-outcomeOf m o = recordOf m o .outcome
+outcomeOf m o = outcomeIn (recordOf m o)
 
 abbrev pub firstOf : Machine → ℕ → ℕ
 firstOf m o = outcomeOf m o .first
@@ -87,7 +93,7 @@ module _ (m : Machine) where
   frame-content k c =
       record { threads = refl; keys = refl; clock = refl; idle = refl; asked = λ o. refl; outcome = λ o. refl; point = λ t. refl; op = λ t. refl; end = λ t. refl }
 
-  frame-record : (o : OpId) (r : Record) → r .asked ≡ recordAt m o .asked → r .outcome ≡ recordAt m o .outcome → Frame m (withRecord o r m)
+  frame-record : (o : OpId) (r : Record) → r .asked ≡ recordAt m o .asked → outcomeIn r ≡ outcomeIn (recordAt m o) → Frame m (withRecord o r m)
   frame-record o r e f =
       record {
         threads = refl;
@@ -95,7 +101,7 @@ module _ (m : Machine) where
         clock = refl;
         idle = refl;
         asked = λ i. set-field (λ (x : Record). x .asked) (m .records) (o .0) i r noRecord e;
-        outcome = λ i. set-field (λ (x : Record). x .outcome) (m .records) (o .0) i r noRecord f;
+        outcome = λ i. set-field outcomeIn (m .records) (o .0) i r noRecord f;
         point = λ t. refl;
         op = λ t. refl;
         end = λ t. refl;
@@ -130,7 +136,7 @@ frame-trans f g =
     }
 
 module _ (t : ThreadId) (o : OpId) where
-  frame-updates : (d : UpdateDeed) (u : Update) (m : Machine) → Frame m (updates d u m)
+  frame-updates : (d : UpdateDeed) (u : Update) (m : Machine) → Frame m (updates d u t m)
   frame-updates Reads u m = frame-refl m
   frame-updates Raises u m = frame-trans (frame-calculator m _) (frame-record _ (u .node .op) _ refl refl)
   frame-updates (Forwards n) u m = frame-calculator m _
@@ -159,8 +165,8 @@ abbrev pub firstAfter : ℕ → ℕ → ℕ
 firstAfter step x = cond (eqb x 0) step x
 
 abbrev pub outcomeAfter : Next → ℕ → Outcome → Outcome
-outcomeAfter (To p) step x = record { answer = x .answer; first = firstAfter step (x .first); last = x .last; own = more (x .own) }
-outcomeAfter (Returns a) step x = record { answer = a; first = firstAfter step (x .first); last = step; own = more (x .own) }
+outcomeAfter (To p) step x = record { answer = x .answer; first = firstAfter step (x .first); last = x .last; own = more (x .own); raiser = 0 }
+outcomeAfter (Returns a) step x = record { answer = a; first = firstAfter step (x .first); last = step; own = more (x .own); raiser = 0 }
 
 abbrev pub pointAfter : Next → Point
 pointAfter (To p) = p
@@ -183,9 +189,6 @@ pub record Went (t : ThreadId) (n : Next) (m m' : Machine) : Type 0 where
   pub end : (u : ℕ) → localOf m' u .end ≡ localOf m u .end
   pub here : localAt m' t .point ≡ pointAfter n
   pub next : localAt m' t .op ≡ opAfter n (localAt m t .op)
-
-abbrev outcomeIn : Record → Outcome
-outcomeIn r = r .outcome
 
 -- counted, and the deed done: the state before the thread goes on
 abbrev counted-done : Deed → ThreadId → Machine → Machine

@@ -272,11 +272,11 @@ Behind u v = (v ≡ invalid) ⊎ (v < updateTarget u)
 abbrev pub AtUpdate : World → Update → UpdatePoint → Type 0
 AtUpdate w u ReadCount = Unit {0}
 AtUpdate w u RaiseCount = Unit {0}
-AtUpdate w u ReadCurrent = 0 < w .raised (updateOp u)
-AtUpdate w u (ReadFlag s) = Raised w u (s .0)
-AtUpdate w u (ReadAgain s) = Sighted w u (s .0)
-AtUpdate w u (ReadCell s) = Forwarding w u (s .0)
-AtUpdate w u (Forward s v) = Forwarding w u (s .0) × Behind u v
+AtUpdate w u (ReadCurrent r) = 0 < w .raised (updateOp u)
+AtUpdate w u (ReadFlag r s) = Raised w u (s .0)
+AtUpdate w u (ReadAgain r s) = Sighted w u (s .0)
+AtUpdate w u (ReadCell r s) = Forwarding w u (s .0)
+AtUpdate w u (Forward r s v) = Forwarding w u (s .0) × Behind u v
 
 -- u is what was found
 abbrev pub IsFound : Content → Update → Type 0

@@ -48,6 +48,9 @@ pub mod Demand
 pub mod Events
 pub mod Struck
 pub mod Told
+pub mod Raisers
+pub mod UpdateMoves
+pub mod MetadataUpdates
 pub mod SizeMoves
 pub mod SumReads
 pub mod Summed

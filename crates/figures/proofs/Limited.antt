@@ -1,6 +1,7 @@
 -- In every run within the limits every number is in range, and nothing wraps or is cut.
 use Prim.Native.Nat.{ℕ, zero, suc, _+_, _≤_, _<_}
 use mathlib.Core.Path.{_≡_, refl, sym, ap, _∙_, subst}
+use mathlib.Core.Logic.{_≢_}
 use mathlib.Core.Bool.{Bool, true, false, cond}
 use mathlib.Core.List.{List, [], _∷_, _++_}
 use native.Mathlib.Omega.{arith}
@@ -26,6 +27,7 @@ use Rattle.figures.specs.declared.Asked.{Asked}
 use Rattle.figures.specs.declared.Outcome.{Outcome}
 use Rattle.figures.specs.declared.Record.{Record}
 use Rattle.figures.specs.declared.Machine.{Machine}
+use Rattle.figures.specs.Limits.{invalid}
 use Rattle.figures.specs.Figure4.{more, countOf, countAt, both, freshSnapshot, freshTrace, noSnapshot, noTrace, traceAt, newId, sightOf}
 use Rattle.figures.specs.Figure5.{sizeLooksAt, sizeCell}
 use Rattle.figures.specs.Figure3.{looksAtCell, looksAtSnapshot}
@@ -160,7 +162,7 @@ module _ (counts : List ℕ) (few : opsBefore counts 8 ≤ 64) (n : ℕ) (some :
       let deed = deed-in b b' (wider l) sight si key z (localAt m t .seen) t o tb ob (contentAt m (x .key)) (h .contents (x .key))
       later (omega arith) (x .call) p pin sure in
       let q : more (m .clock) ≤ accessed m t .clock = omega (arith, more-is (m .clock) (omega arith)) in
-      accessed-in b' m t q (wider l .current) next deed (machine-up b b' (wider l) m h)
+      accessed-in b' m t q (wider l .current) (omega (arith, wider l .threads)) next deed (machine-up b b' (wider l) m h)
 
   pub within-step : MachineIn (boundsOf (opsBefore counts 8) (stepOf m t)) (stepOf m t)
   within-step =
@@ -198,8 +200,8 @@ none-kept-in b first [] t j = none-read-in b .values j
 none-kept-in b first (x ∷ counts) zero j = unread-in b .values j
 none-kept-in b first (x ∷ counts) (suc t) j = none-kept-in b (first + x) counts t j
 
-within-start : (threads keys : ℕ) (counts ops : List ℕ) (b : Bounds) → MachineIn b (startOf threads keys counts ops)
-within-start threads keys counts ops b =
+within-start : (threads keys : ℕ) (counts ops : List ℕ) (b : Bounds) → 0 < b .threads → MachineIn b (startOf threads keys counts ops)
+within-start threads keys counts ops b some =
     record {
       calculator =
           unfold startOf in
@@ -217,8 +219,8 @@ within-start threads keys counts ops b =
       records = λ o. start-records threads keys counts ops (RecordIn b) fresh fresh' (o .0);
     }
   where
-    untold : (x : Outcome) → x .last ≡ 0 → InvalidOr (b .keys) (x .answer) → OutcomeIn b x
-    untold x e f = record { answer = f; given = λ l. absurd (omega arith) }
+    untold : (x : Outcome) → x .last ≡ 0 → InvalidOr (b .keys) (x .answer) → (x .raiser ≢ invalid → x .raiser < b .threads) → OutcomeIn b x
+    untold x e f g = record { answer = f; given = λ l. absurd (omega arith); raiser = g }
 
     unlooked : LookIn b (record { read = 0; found = Empty })
     unlooked = record { read = omega arith; found = tt }
@@ -227,11 +229,11 @@ within-start threads keys counts ops b =
     unchanged = record { target = omega arith; exchanged = omega arith; raised = omega arith; window = omega arith }
 
     fresh : RecordIn b noRecord
-    fresh = record { outcome = untold (noRecord .outcome) refl (λ e. omega arith); look = unlooked; change = unchanged; used = omega arith }
+    fresh = record { outcome = untold (noRecord .outcome) refl (λ e. omega arith) (λ e. some); look = unlooked; change = unchanged; used = omega arith }
 
     fresh' : (u x : ℕ) → RecordIn b (unbegun u x)
     fresh' u x =
-        let y = untold (unbegun u x .outcome) refl (λ e. absurd (e refl)) in
+        let y = untold (unbegun u x .outcome) refl (λ e. absurd (e refl)) (λ e. absurd (e refl)) in
         record { outcome = y; look = unlooked; change = unchanged; used = omega arith }
 
 -- ---- Every run.
@@ -277,7 +279,7 @@ module _ (threads keys : ℕ) (counts ops : List ℕ) (schedule : List ℕ) (w :
       (record {
         held = held-start threads keys counts ops schedule w;
         keys' = unfold startOf in refl;
-        within = within-start threads keys counts ops _;
+        within = within-start threads keys counts ops _ (unfold startOf in w .some-threads);
       })
 
   -- an operation's thread is one of the threads

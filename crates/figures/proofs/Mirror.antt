@@ -33,6 +33,7 @@ use Rattle.figures.specs.declared.Deed.the-variants.{Rests, Finds, Links
 use Rattle.figures.specs.declared.Next.{Next}
 use Rattle.figures.specs.declared.Next.the-variants.{To, Returns}
 use Rattle.figures.specs.declared.Local.{Local}
+use Rattle.figures.specs.declared.Outcome.{Outcome}
 use Rattle.figures.specs.declared.Record.{Record}
 use Rattle.figures.specs.declared.Machine.{Machine}
 use Rattle.figures.specs.Limits.{invalid}
@@ -213,37 +214,37 @@ pass w = record { clock = suc (w .clock); asked = w .asked; first = w .first; la
 
 -- ---- The parts of a step, where what is written again as it was changes nothing.
 
--- an operation's record, of which the world does not have the number of own steps
-abbrev recordIn : World → ℕ → ℕ → Record
-recordIn w o own =
+-- an operation's record, of which the world has neither the number of own steps nor the raiser
+abbrev recordIn : World → ℕ → Outcome → Record
+recordIn w o x =
     record {
       asked = w .asked o;
-      outcome = record { answer = w .answer o; first = w .first o; last = w .last o; own = own };
+      outcome = record { answer = w .answer o; first = w .first o; last = w .last o; own = x .own; raiser = x .raiser };
       look = record { read = w .read o; found = w .found o };
       change = record { target = record { 0 = w .target o }; exchanged = w .exch o; raised = w .raised o; window = record { 0 = w .window o } };
       snapshot = record { 0 = w .used o };
     }
 
-module _ (w : World) (o own : ℕ) where
-  puts-first : putRecord o (counted (suc (w .clock)) (recordIn w o own)) (pass w) ≡ tick o w
+module _ (w : World) (o : ℕ) (x : Outcome) where
+  puts-first : putRecord o (counted (suc (w .clock)) (recordIn w o x)) (pass w) ≡ tick o w
   puts-first = simp put-none
 
-  puts-found : (c : Content) → putRecord o (withLook (record { read = w .clock; found = c }) (recordIn w o own)) w ≡ find o c w
+  puts-found : (c : Content) → putRecord o (withLook (record { read = w .clock; found = c }) (recordIn w o x)) w ≡ find o c w
   puts-found c = simp put-none
 
-  puts-exchanged : (v : Target) (c : Content) → putContent (key w o) c (putRecord o (exchangedAt v (w .clock) (recordIn w o own)) w) ≡ exchange o (v .0) c w
+  puts-exchanged : (v : Target) (c : Content) → putContent (key w o) c (putRecord o (exchangedAt v (w .clock) (recordIn w o x)) w) ≡ exchange o (v .0) c w
   puts-exchanged v c = simp put-none
 
-  puts-raised : (q v : ℕ) (n : SnapshotId) → n .0 ≡ cond (eqb (w .closed (w .cur)) 0) (w .cur) 0 → putRecord o (raisedAt (w .clock) n (recordIn w o own)) (putCount q v w) ≡ raise o q v w
-  puts-raised q v n e = simp (put-none, e)
+  puts-raised : (q v : ℕ) (n : SnapshotId) (t : ThreadId) → n .0 ≡ cond (eqb (w .closed (w .cur)) 0) (w .cur) 0 → putRecord o (raisedAt (w .clock) n t (recordIn w o x)) (putCount q v w) ≡ raise o q v w
+  puts-raised q v n t e = simp (put-none, e)
 
-  puts-used : (n : SnapshotId) → putRecord o (withUsed n (recordIn w o own)) w ≡ share (n .0) o w
+  puts-used : (n : SnapshotId) → putRecord o (withUsed n (recordIn w o x)) w ≡ share (n .0) o w
   puts-used n = simp put-none
 
-  puts-fixed : (n : SnapshotId) (v t : ℕ) → putRecord o (withUsed n (recordIn w o own)) (putTrace (n .0) (w .ann (n .0)) (w .closed (n .0)) (w .clock) (w .mine t) (putSnapshot (n .0) (w .flag (n .0)) v (w .cell (n .0)) w)) ≡ fix (n .0) v t o w
+  puts-fixed : (n : SnapshotId) (v t : ℕ) → putRecord o (withUsed n (recordIn w o x)) (putTrace (n .0) (w .ann (n .0)) (w .closed (n .0)) (w .clock) (w .mine t) (putSnapshot (n .0) (w .flag (n .0)) v (w .cell (n .0)) w)) ≡ fix (n .0) v t o w
   puts-fixed n v t = simp put-none
 
-  puts-last : (a t : ℕ) → putLocal t (suc o) Idle (w .mine t) (putRecord o (answered a (w .clock) (recordIn w o own)) w) ≡ return t o a w
+  puts-last : (a t : ℕ) → putLocal t (suc o) Idle (w .mine t) (putRecord o (answered a (w .clock) (recordIn w o x)) w) ≡ return t o a w
   puts-last a t = simp put-none
 
 puts-cell : (w : World) (n q v : ℕ) → putSnapshot n (w .flag n) (w .size n) (put (w .cell n) q v) w ≡ write n q v w
@@ -267,7 +268,7 @@ module _ (m : Machine) (g : ℕ → ℕ → ℕ) (s : Shape m) where
   world-ticked o h c =
       world-record (withClock (more (m .clock)) (m .idle) m) g o (counted (more (m .clock)) (recordAt m o)) (omega (arith, s .records))
       ∙ ap (λ (x : ℕ). putRecord (o .0) (counted x (recordAt m o)) (worldOf (withClock x (m .idle) m) g)) (more-is (m .clock) c)
-      ∙ puts-first (worldOf m g) (o .0) (recordAt m o .outcome .own)
+      ∙ puts-first (worldOf m g) (o .0) (recordAt m o .outcome)
 
   pub world-idled : m .clock < 4294967295 → worldOf (idled m) g ≡ pass (worldOf m g)
   world-idled c = ap (λ (x : ℕ). worldOf (withClock x (m .idle) m) g) (more-is (m .clock) c)
@@ -280,7 +281,7 @@ module _ (m : Machine) (g : ℕ → ℕ → ℕ) (s : Shape m) where
       world-local (withRecord o r m) g t (finished (localAt m t)) (omega (arith, s .locals))
       ∙ ap (putLocal (t .0) _ Idle (worldOf m g .mine (t .0))) (world-record m g o r (omega (arith, s .records)))
       ∙ ap (λ (x : ℕ). putLocal (t .0) x Idle (worldOf m g .mine (t .0)) (putRecord (o .0) r (worldOf m g))) (moreByte-is (localAt m t .op .0) (omega arith) ∙ ap suc e)
-      ∙ puts-last (worldOf m g) (o .0) (recordAt m o .outcome .own) a (t .0)
+      ∙ puts-last (worldOf m g) (o .0) (recordAt m o .outcome) a (t .0)
 
 -- the places that a deed writes are there
 abbrev pub UpdateInRange : UpdateDeed → Update → Type 0
@@ -319,7 +320,7 @@ module _ (m : Machine) (g : ℕ → ℕ → ℕ) (s : Shape m) where
       let r = exchangedAt v (m .clock) (recordAt m o) in
       world-content (withRecord o r m) g (recordAt m o .asked .key) c (omega (arith, s .slots))
       ∙ ap (putContent (recordAt m o .asked .key) c) (world-record m g o r (omega (arith, s .records)))
-      ∙ puts-exchanged (worldOf m g) (o .0) (recordAt m o .outcome .own) v c
+      ∙ puts-exchanged (worldOf m g) (o .0) (recordAt m o .outcome) v c
 
   world-written : (n : SnapshotId) (j : Cell) (v : ℕ) → n .0 < 65 → j .thread .0 < 8 → worldOf (calculated (written n j v) m) g ≡ write (n .0) (noOf j) v (worldOf m g)
   world-written n j v h k =
@@ -328,14 +329,16 @@ module _ (m : Machine) (g : ℕ → ℕ → ℕ) (s : Shape m) where
       ∙ ap (λ (b : ℕ → ℕ). putSnapshot (n .0) (x .collecting) (x .size) b (worldOf m g)) (block-put (x .cells) j v (omega (arith, s .calculator .cells (n .0) h)))
       ∙ puts-cell (worldOf m g) (n .0) (noOf j) v
 
-  world-raised : (u : Update) → u .node .op .0 < 64 → u .node .note .0 .0 < 8 → worldOf (updates Raises u m) g ≡ update Raises u (worldOf m g)
-  world-raised u h k =
+  world-raised : (u : Update) (t : ThreadId) → u .node .op .0 < 64 → u .node .note .0 .0 < 8
+      → worldOf (rewritten (u .node .op) (raisedAt (m .clock) (windowOf (m .calculator)) t) (calculated (raised (cellOf u) (updateTarget u)) m)) g
+      ≡ update Raises u (worldOf m g)
+  world-raised u t h k =
       let c = m .calculator in
       let o = u .node .op in
-      let r = raisedAt (m .clock) (windowOf c) (recordAt m o) in
+      let r = raisedAt (m .clock) (windowOf c) t (recordAt m o) in
       world-record (calculated (raised (cellOf u) (updateTarget u)) m) g o r (omega (arith, s .records))
       ∙ ap (putRecord (o .0) r) (world-count m g (cellOf u) (updateTarget u) (omega (arith, s .calculator .counters)))
-      ∙ puts-raised (worldOf m g) (o .0) (recordAt m o .outcome .own) (updateCell u) (updateTarget u) (windowOf c)
+      ∙ puts-raised (worldOf m g) (o .0) (recordAt m o .outcome) (updateCell u) (updateTarget u) (windowOf c) t
       (cond-map (λ (n : SnapshotId). n .0) (eqb (traceAt c (c .current) .closed) 0) (c .current) (record { 0 = 0 }))
 
   world-announced : m .calculator .current .0 < 64 → worldOf (calculated (announced (m .clock)) m) g ≡ announce (worldOf m g)
@@ -374,7 +377,7 @@ module _ (m : Machine) (g : ℕ → ℕ → ℕ) (s : Shape m) where
 
   world-used : (n : SnapshotId) (o : OpId) → o .0 < 64 → worldOf (rewritten o (withUsed n) m) g ≡ share (n .0) (o .0) (worldOf m g)
   world-used n o h =
-      world-record m g o (withUsed n (recordAt m o)) (omega (arith, s .records)) ∙ puts-used (worldOf m g) (o .0) (recordAt m o .outcome .own) n
+      world-record m g o (withUsed n (recordAt m o)) (omega (arith, s .records)) ∙ puts-used (worldOf m g) (o .0) (recordAt m o .outcome) n
 
   world-fixed : (n : SnapshotId) (v : ℕ) (t : ThreadId) (o : OpId) → n .0 < 65 → o .0 < 64
       → worldOf (sizes (Fixes n v) t o m) g ≡ fix (n .0) v (t .0) (o .0) (worldOf m g)
@@ -388,19 +391,19 @@ module _ (m : Machine) (g : ℕ → ℕ → ℕ) (s : Shape m) where
       ∙ ap (putRecord (o .0) r)
       (world-trace (calculated (withSnapshot n x') m) g n y' (omega (arith, s .calculator .traces))
       ∙ ap (putTrace (n .0) (y' .announced) (y' .closed) (y' .fixed) (block (y' .seen))) (world-snapshot m g n x' (omega (arith, s .calculator .snapshots))))
-      ∙ puts-fixed (worldOf m g) (o .0) (recordAt m o .outcome .own) n v (t .0)
+      ∙ puts-fixed (worldOf m g) (o .0) (recordAt m o .outcome) n v (t .0)
 
   pub world-does : (d : Deed) (t : ThreadId) (o : OpId) → InRange m t o d
       → worldOf (does d t o m) (act d (t .0) (o .0) (worldOf m g) .held) ≡ act d (t .0) (o .0) (worldOf m g)
   world-does Rests t o h = refl
   world-does (Finds c) t o h =
       world-record m g o (withLook (record { read = m .clock; found = c }) (recordAt m o)) (omega (arith, h .op, s .records))
-      ∙ puts-found (worldOf m g) (o .0) (recordAt m o .outcome .own) c
+      ∙ puts-found (worldOf m g) (o .0) (recordAt m o .outcome) c
   world-does (Links n) t o h = world-exchanged o (n .note .1) (Live n) (h .op) (h .deed)
   world-does (Marks n d) t o h = world-exchanged o (d .note .1) (Marked n d) (h .op) (h .deed)
   world-does Unlinks t o h = world-content m g (recordAt m o .asked .key) Empty (omega (arith, h .deed, s .slots))
   world-does (Updates Reads u) t o h = refl
-  world-does (Updates Raises u) t o h = world-raised u (h .deed .0) (h .deed .1)
+  world-does (Updates Raises u) t o h = world-raised u _ (h .deed .0) (h .deed .1)
   world-does (Updates (Forwards n) u) t o h = world-written n (cellOf u) (updateTarget u) (h .deed .0) (h .deed .1)
   world-does (Sizes Looks) t o h = refl
   world-does (Sizes Announces) t o h = world-announced (h .deed)

@@ -160,17 +160,17 @@ module _ {T n x : ℕ} {w : World} {t o : ℕ} (core : Core T n x w) (acting : A
       on p h = record { guar = tt; onward = record { noted = noted; here = h; then' = then' } }
 
       -- it is settled: the end of the update
-      over : Settled w (updateOp u) (suc x) → Goes a done
-      over s = record { guar = tt; onward = ends (suc x) w t o u noted (settled-later (omega arith) s) T a then' }
+      over : (told : Bool) → Settled w (updateOp u) (suc x) → Goes a (done told)
+      over told s = record { guar = tt; onward = ends (suc x) w t o u noted (settled-later (omega arith) s) T a then' }
 
       -- the cell's value v is known: exchange it, or it has come to the target
-      known-cell : (s : SnapshotId) (v : ℕ) → Forwarding w u (s .0) → v ≡ w .cell (s .0) (updateCell u) → Goes a (forwardFrom s (u .node .note .1) v)
-      known-cell s v f e =
-          cond-case (Goes a) (behind v (u .node .note .1)) (onTo (Forward s v)) done
-          (λ b. on (Forward s v) (f, behind-is b))
+      known-cell : (told : Bool) (s : SnapshotId) (v : ℕ) → Forwarding w u (s .0) → v ≡ w .cell (s .0) (updateCell u) → Goes a (forwardFrom told s (u .node .note .1) v)
+      known-cell told s v f e =
+          cond-case (Goes a) (behind v (u .node .note .1)) (onTo (Forward told s v)) (done told)
+          (λ b. on (Forward told s v) (f, behind-is b))
           (λ b. let c = not-behind b in
           let r = f .sighted .raised in
-          over (settle (r .raised) (s .0) (r .window) (r .there) (λ k i. holds k i (c .0) (c .1) (ℕ-discrete (w .closed (s .0)) 0))))
+          over told (settle (r .raised) (s .0) (r .window) (r .there) (λ k i. holds k i (c .0) (c .1) (ℕ-discrete (w .closed (s .0)) 0))))
         where
           behind-is : behind v (u .node .note .1) ≡ true → Behind u v
           behind-is b = test-case (λ z. (z || ltb v (updateTarget u)) ≡ true → Behind u v) (eqb v invalid)
@@ -187,41 +187,46 @@ module _ {T n x : ℕ} {w : World} {t o : ℕ} (core : Core T n x w) (acting : A
               let y : 0 < w .closed (s .0) = omega arith in
               after (rw i y) (rw i (omega (arith, core .snaps .spans (s .0) k y .1)))
 
-      -- one access of updateMetadata
-      pub update-branch : (p : UpdatePoint) (g : Sight) → Sees w (updateCell u) (updateLooksAt p .0) g → AtUpdate w u p → Branch T x w t o (updating p u a g)
-      update-branch ReadCount g sees h =
-          eq-case (λ p. Goes a (onTo p)) (g .count) (updateTarget u - 1) RaiseCount ReadCurrent
-          (λ e. on RaiseCount tt)
-          (λ e. on ReadCurrent (risen (λ i. e (sees .count ∙ i))))
-      update-branch RaiseCount g sees h =
-          eq-case (λ d. Branch T x w t o (record { next = To (Updating ReadCurrent u a); deed = Updates d u })) (g .count) (updateTarget u - 1) Raises Reads
+      -- the exchange of the counter, whatever is told of it
+      raise-branch : (told : Bool) (g : Sight) → Sees w (updateCell u) 0 g
+          → Branch T x w t o (record { next = To (Updating (ReadCurrent told) u a); deed = Updates (cond (eqb (g .count) (updateTarget u - 1)) Raises Reads) u })
+      raise-branch told g sees =
+          eq-case (λ d. Branch T x w t o (record { next = To (Updating (ReadCurrent told) u a); deed = Updates d u })) (g .count) (updateTarget u - 1) Raises Reads
           (λ e. let i = aim in let c = sees .count in record {
             guar = record { noted = noted; below = omega arith };
             onward = record { noted = noted-same w (raised-now) refl refl refl noted; here = rw put-same (omega (arith, acting .clock)); then' = afterwards-same w raised-now refl refl refl refl o u a then' };
           })
-          (λ e. on ReadCurrent (risen (λ i. e (sees .count ∙ i))))
+          (λ e. on (ReadCurrent told) (risen (λ i. e (sees .count ∙ i))))
         where
           raised-now : World
           raised-now = raise (updateOp u) (updateCell u) (updateTarget u) w
-      update-branch ReadCurrent g sees h =
-          on (ReadFlag (g .current)) (record { raised = h; window = rw (sees .current) (windowed (ℕ-discrete (w .window (updateOp u)) 0)); there = rw (sees .current) (le-refl _) })
+
+      -- one access of updateMetadata
+      pub update-branch : (p : UpdatePoint) (g : Sight) → Sees w (updateCell u) (updateLooksAt p .0) g → AtUpdate w u p → Branch T x w t o (updating p u a g)
+      update-branch ReadCount g sees h =
+          eq-case (λ p. Goes a (onTo p)) (g .count) (updateTarget u - 1) RaiseCount (ReadCurrent false)
+          (λ e. on RaiseCount tt)
+          (λ e. on (ReadCurrent false) (risen (λ i. e (sees .count ∙ i))))
+      update-branch RaiseCount g sees h = raise-branch _ g sees
+      update-branch (ReadCurrent told) g sees h =
+          on (ReadFlag told (g .current)) (record { raised = h; window = rw (sees .current) (windowed (ℕ-discrete (w .window (updateOp u)) 0)); there = rw (sees .current) (le-refl _) })
         where
           windowed : Dec (w .window (updateOp u) ≡ 0) → w .window (updateOp u) ≤ w .cur
           windowed (yes e) = omega arith
           windowed (no e) = core .windows .told (updateOp u) h (omega arith) .known .there
-      update-branch (ReadFlag s) g sees h =
-          cond-case (Goes a) (g .collecting) (onTo (ReadAgain s)) done
-          (λ e. let f = sym (sees .collecting) ∙ e in on (ReadAgain s) (record { raised = h; some = up f (ℕ-discrete (s .0) 0); early = λ l. let z = core .snaps .open' (s .0) (record { some = up f (ℕ-discrete (s .0) 0); there = h .there }) f in absurd (omega arith) }))
+      update-branch (ReadFlag told s) g sees h =
+          cond-case (Goes a) (g .collecting) (onTo (ReadAgain told s)) (done told)
+          (λ e. let f = sym (sees .collecting) ∙ e in on (ReadAgain told s) (record { raised = h; some = up f (ℕ-discrete (s .0) 0); early = λ l. let z = core .snaps .open' (s .0) (record { some = up f (ℕ-discrete (s .0) 0); there = h .there }) f in absurd (omega arith) }))
           (λ e. let f = sym (sees .collecting) ∙ e in
-          over (settle (h .raised) (s .0) (h .window) (h .there) (λ k i. let c = core .snaps .shut (s .0) k f in after (rw i c) (rw i (omega (arith, core .snaps .spans (s .0) k c .1))))))
+          over told (settle (h .raised) (s .0) (h .window) (h .there) (λ k i. let c = core .snaps .shut (s .0) k f in after (rw i c) (rw i (omega (arith, core .snaps .spans (s .0) k c .1))))))
         where
           up : w .flag (s .0) ≡ true → Dec (s .0 ≡ 0) → 0 < s .0
           up f (yes e) = let i : true ≡ false = sym (rw e at f) ∙ core .snaps .none in let z : _≡_ {A = ℕ} 0 1 = cc in absurd (omega arith)
           up f (no e) = omega arith
-      update-branch (ReadAgain s) g sees h =
-          eq-case (Goes a) (g .count) (updateTarget u) (onTo (ReadCell s)) done
-          (λ e. on (ReadCell s) (record { sighted = h; reach = λ v r i l. let c = rw i at (core .counters .done v r) in omega (arith, sees .count) }))
-          (λ e. over (gone (λ i. e (sees .count ∙ i)) (ℕ-discrete (w .op (thr w (updateOp u))) (updateOp u))))
+      update-branch (ReadAgain told s) g sees h =
+          eq-case (Goes a) (g .count) (updateTarget u) (onTo (ReadCell told s)) (done told)
+          (λ e. on (ReadCell told s) (record { sighted = h; reach = λ v r i l. let c = rw i at (core .counters .done v r) in omega (arith, sees .count) }))
+          (λ e. over told (gone (λ i. e (sees .count ∙ i)) (ℕ-discrete (w .op (thr w (updateOp u))) (updateOp u))))
         where
           gone : w .count (updateCell u) ≢ updateTarget u → Dec (w .op (thr w (updateOp u)) ≡ updateOp u) → Settled w (updateOp u) (suc x)
           gone e (yes i) =
@@ -231,14 +236,14 @@ module _ {T n x : ℕ} {w : World} {t o : ℕ} (core : Core T n x w) (acting : A
           gone e (no i) =
               let l = past (updateOp u) (noted .exchanged) i in
               settled-later (omega (arith, core .records .ends (updateOp u) l .past)) (core .returned .changed (updateOp u) l (noted .exchanged) .settled)
-      update-branch (ReadCell s) g sees h = known-cell s (g .cell) h (sees .cell)
-      update-branch (Forward s v) g sees h =
-          eq-case (Goes a) (g .cell) v (record { next = Rattle.figures.specs.declared.UpdateNext.the-variants.Done; deed = Forwards s }) (forwardFrom s (u .node .note .1) (g .cell))
+      update-branch (ReadCell told s) g sees h = known-cell told s (g .cell) h (sees .cell)
+      update-branch (Forward told s v) g sees h =
+          eq-case (Goes a) (g .cell) v (record { next = Rattle.figures.specs.declared.UpdateNext.the-variants.Done _; deed = Forwards s }) (forwardFrom told s (u .node .note .1) (g .cell))
           (λ e. record {
             guar = record { noted = noted; forwarding = h .0; behind = rw (sym (sees .cell) ∙ e) (h .1) };
             onward = ends (suc x) (write (s .0) (updateCell u) (updateTarget u) w) t o u (noted-same w forwarded refl refl refl noted) (settled-later (omega arith) settled) T a (afterwards-same w forwarded refl refl refl refl o u a then');
           })
-          (λ e. known-cell s (g .cell) (h .0) (sees .cell))
+          (λ e. known-cell told s (g .cell) (h .0) (sees .cell))
         where
           forwarded : World
           forwarded = write (s .0) (updateCell u) (updateTarget u) w

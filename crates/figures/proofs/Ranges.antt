@@ -2,7 +2,7 @@
 use Prim.Native.Nat.{ℕ, suc, _-_, _≤_, _<_}
 use mathlib.Core.Path.{_≡_, refl}
 use mathlib.Core.Logic.{_≢_}
-use mathlib.Core.Bool.{Bool, true, cond}
+use mathlib.Core.Bool.{Bool, true, false, cond}
 use mathlib.Core.List.{List}
 use native.Mathlib.Omega.{arith}
 use lib.Dec.{eqb, ltb}
@@ -56,7 +56,7 @@ use Rattle.figures.specs.Figure4.{more, countAt, blockOf, freshSnapshot,
 use Rattle.figures.specs.Figure6.{behind, forwardFrom, onTo, done, firstCell, nextCell, collectNext, totalOf}
 use Rattle.figures.specs.Figure5.{updateAt, sizeAt}
 use Rattle.figures.specs.Figure3.{found, linkFound, updateNext, sizeNext, entry, nodeOf, isLive, isMarked, cellOf}
-use Rattle.figures.specs.Step.{noSlot, noLocal, noRecord, contentAt, localAt, recordAt, withCalculator, withContent, withLocal, withRecord, withClock, withOutcome, withLook, withUsed, exchangedAt, raisedAt, standsAt, accessOf, moveOf, updates, sizes, does, goesOn, ticked, accessed}
+use Rattle.figures.specs.Step.{noSlot, noLocal, noRecord, contentAt, localAt, recordAt, withCalculator, withContent, withLocal, withRecord, withClock, withOutcome, counted, withLook, withUsed, exchangedAt, raisedAt, standsAt, accessOf, moveOf, updates, sizes, does, goesOn, ticked, accessed}
 use Rattle.figures.specs.Counts.{isAnnouncing, isAnnouncement}
 use Rattle.figures.specs.Ranges.{Bounds, InvalidOr, TargetIn, NodeIn, ContentIn, SnapshotIdIn, CellIn, UpdatePointIn, SizePointIn, AfterIn, PointIn, OutcomeIn, LookIn, ChangeIn, RecordIn, SumIn, SnapshotIn, TraceIn, CalculatorIn, MachineIn}
 use Rattle.figures.proofs.Laws.{set-holds, count-holds, block-holds, cond-both, more-is, lt-case, eq-case}
@@ -90,11 +90,11 @@ module _ (b b' : Bounds) (w : Wider b b') where
   update-up : (p : UpdatePoint) → UpdatePointIn b p → UpdatePointIn b' p
   update-up ReadCount h = tt
   update-up RaiseCount h = tt
-  update-up ReadCurrent h = tt
-  update-up (ReadFlag n) h = omega (arith, w .current)
-  update-up (ReadAgain n) h = omega (arith, w .current)
-  update-up (ReadCell n) h = omega (arith, w .current)
-  update-up (Forward n v) h = (omega (arith, w .current), λ e. omega (arith, h .1 e, w .clock))
+  update-up (ReadCurrent r) h = tt
+  update-up (ReadFlag r n) h = omega (arith, w .current)
+  update-up (ReadAgain r n) h = omega (arith, w .current)
+  update-up (ReadCell r n) h = omega (arith, w .current)
+  update-up (Forward r n v) h = (omega (arith, w .current), λ e. omega (arith, h .1 e, w .clock))
 
   size-up : (p : SizePoint) → SizePointIn b p → SizePointIn b' p
   size-up FindCurrent h = tt
@@ -131,7 +131,12 @@ module _ (b b' : Bounds) (w : Wider b b') where
       let y = h .look in
       let z = h .change in
       record {
-        outcome = record { answer = λ e. omega (arith, x .answer e, w .keys); given = λ e. omega (arith, x .given e, w .keys) };
+        outcome =
+            record {
+              answer = λ e. omega (arith, x .answer e, w .keys);
+              given = λ e. omega (arith, x .given e, w .keys);
+              raiser = λ e. omega (arith, x .raiser e, w .threads);
+            };
         look = record { read = omega (arith, y .read, w .clock); found = content-up (r .look .found) (y .found) };
         change =
             record {
@@ -184,7 +189,7 @@ NextIn b (Returns a) = a ≤ b .keys
 
 abbrev UpdateNextIn : Bounds → UpdateNext → Type 0
 UpdateNextIn b (Then p) = UpdatePointIn b p
-UpdateNextIn b Done = Unit {0}
+UpdateNextIn b (Done r) = Unit {0}
 
 abbrev SizeNextIn : Bounds → SizeNext → Type 0
 SizeNextIn b (Goes p) = SizePointIn b p
@@ -251,26 +256,26 @@ pub record SightIn (b : Bounds) (s : Sight) : Type 0 where
   pub size : InvalidOr (b .keys) (s .size)
 
 module _ (b b' : Bounds) (w : Wider b b') (s : Sight) (si : SightIn b s) (key : 0 < b .keys) where
-  forward-in : (n : SnapshotId) (c : Target) → SnapshotIdIn b n → UpdateNextIn b' (forwardFrom n c (s .cell) .next)
-  forward-in n c h =
-      cond-both (λ (x : UpdateMove). UpdateNextIn b' (x .next)) (behind (s .cell) c) (onTo (Forward n (s .cell))) done
+  forward-in : (r : Bool) (n : SnapshotId) (c : Target) → SnapshotIdIn b n → UpdateNextIn b' (forwardFrom r n c (s .cell) .next)
+  forward-in r n c h =
+      cond-both (λ (x : UpdateMove). UpdateNextIn b' (x .next)) (behind (s .cell) c) (onTo (Forward r n (s .cell))) (done r)
       (omega (arith, w .current), λ e. omega (arith, si .cell e, w .clock)) tt
 
   update-in : (p : UpdatePoint) (c : Target) → UpdatePointIn b p → UpdateNextIn b' (updateAt p c s .next)
-  update-in ReadCount c h = cond-both (UpdatePointIn b') (eqb (s .count) (c .0 - 1)) RaiseCount ReadCurrent tt tt
+  update-in ReadCount c h = cond-both (UpdatePointIn b') (eqb (s .count) (c .0 - 1)) RaiseCount (ReadCurrent false) tt tt
   update-in RaiseCount c h = tt
-  update-in ReadCurrent c h = omega (arith, si .current, w .current)
-  update-in (ReadFlag n) c h = cond-both (λ (x : UpdateMove). UpdateNextIn b' (x .next)) (s .collecting) (onTo (ReadAgain n)) done (omega (arith, w .current)) tt
-  update-in (ReadAgain n) c h = cond-both (λ (x : UpdateMove). UpdateNextIn b' (x .next)) (eqb (s .count) (c .0)) (onTo (ReadCell n)) done (omega (arith, w .current)) tt
-  update-in (ReadCell n) c h = forward-in n c h
-  update-in (Forward n known) c h = cond-both (λ (x : UpdateMove). UpdateNextIn b' (x .next)) (eqb (s .cell) known) _ (forwardFrom n c (s .cell)) tt (forward-in n c (h .0))
+  update-in (ReadCurrent r) c h = omega (arith, si .current, w .current)
+  update-in (ReadFlag r n) c h = cond-both (λ (x : UpdateMove). UpdateNextIn b' (x .next)) (s .collecting) (onTo (ReadAgain r n)) (done r) (omega (arith, w .current)) tt
+  update-in (ReadAgain r n) c h = cond-both (λ (x : UpdateMove). UpdateNextIn b' (x .next)) (eqb (s .count) (c .0)) (onTo (ReadCell r n)) (done r) (omega (arith, w .current)) tt
+  update-in (ReadCell r n) c h = forward-in r n c h
+  update-in (Forward r n known) c h = cond-both (λ (x : UpdateMove). UpdateNextIn b' (x .next)) (eqb (s .cell) known) _ (forwardFrom r n c (s .cell)) tt (forward-in r n c (h .0))
 
   update-next-in : (v : UpdateNext) (u : Update) (a : After) → UpdateNextIn b' v → NodeIn b' (u .node) → AfterIn b' a → NextIn b' (updateNext v u a)
   update-next-in (Then p) u a h x y = (h, x, y)
-  update-next-in Done u (Answer a) h x y = omega (arith, w .keys)
-  update-next-in Done u (ToMark n) h x y = y
-  update-next-in Done u (ToHelpUnlink n d) h x y = y
-  update-next-in Done u (ToUnlink n d) h x y = y
+  update-next-in (Done r) u (Answer a) h x y = omega (arith, w .keys)
+  update-next-in (Done r) u (ToMark n) h x y = y
+  update-next-in (Done r) u (ToHelpUnlink n d) h x y = y
+  update-next-in (Done r) u (ToUnlink n d) h x y = y
 
   -- the cells of compute, one after another
   next-cell : (P : SizePoint → Type 0) (j : Cell) (again : Cell → SizePoint) (after : SizePoint) → ((j' : Cell) → CellIn b' j' → P (again j')) → P after
@@ -531,25 +536,33 @@ module _ (b : Bounds) where
         record { target = e .most; exchanged = f; raised = h .change .raised; window = h .change .window } in
         record { outcome = h .outcome; look = h .look; change = x; used = h .used }
 
-    raisedAt-in : (step : ℕ) (w : SnapshotId) → step ≤ b .clock → SnapshotIdIn b w → RecordIn b (raisedAt step w r)
-    raisedAt-in step w e f =
-        let x : ChangeIn b (raisedAt step w r .change) =
+    raisedAt-in : (step : ℕ) (w : SnapshotId) (t : ThreadId) → step ≤ b .clock → SnapshotIdIn b w → t .0 < b .threads → RecordIn b (raisedAt step w t r)
+    raisedAt-in step w t e f g =
+        let x : ChangeIn b (raisedAt step w t r .change) =
         record { target = h .change .target; exchanged = h .change .exchanged; raised = e; window = f } in
-        record { outcome = h .outcome; look = h .look; change = x; used = h .used }
+        record {
+          outcome = record { answer = h .outcome .answer; given = h .outcome .given; raiser = λ n. g };
+          look = h .look;
+          change = x;
+          used = h .used;
+        }
 
     used-in : (n : SnapshotId) → SnapshotIdIn b n → RecordIn b (withUsed n r)
     used-in n e = record { outcome = h .outcome; look = h .look; change = h .change; used = e }
 
   ticked-in : (o : OpId) (m : Machine) → MachineIn b m → MachineIn b (ticked o m)
   ticked-in o m h =
-      record-in _ (clock-in m h _ _) o _ (outcome-in (recordAt m o) (h .records o) _ (record { answer = h .records o .outcome .answer; given = h .records o .outcome .given }))
+      let y = h .records o .outcome in
+      let x : OutcomeIn b (counted (more (m .clock)) (recordAt m o) .outcome) = record { answer = y .answer; given = y .given; raiser = y .raiser } in
+      record-in _ (clock-in m h _ _) o _ (outcome-in (recordAt m o) (h .records o) _ x)
 
-  module _ (t : ThreadId) (o : OpId) (m : Machine) (h : MachineIn b m) (c : m .clock ≤ b .clock) (k : m .calculator .current .0 ≤ b .current) where
-    updates-in : (d : UpdateDeed) (u : Update) → NodeIn b (u .node) → MachineIn b (updates d u m)
+  module _ (t : ThreadId) (o : OpId) (m : Machine) (h : MachineIn b m) (c : m .clock ≤ b .clock) (k : m .calculator .current .0 ≤ b .current)
+      (tb : t .0 < b .threads) where
+    updates-in : (d : UpdateDeed) (u : Update) → NodeIn b (u .node) → MachineIn b (updates d u t m)
     updates-in Reads u e = h
     updates-in Raises u e =
         record-in _ (calculator-in m h _ (raised-in (m .calculator) (h .calculator) (cellOf u) (u .node .note .1 .0) (e .target .most))) (u .node .op) _
-        (raisedAt-in (recordAt m (u .node .op)) (h .records (u .node .op)) (m .clock) (windowOf (m .calculator)) c (window-in (m .calculator) k))
+        (raisedAt-in (recordAt m (u .node .op)) (h .records (u .node .op)) (m .clock) (windowOf (m .calculator)) _ c (window-in (m .calculator) k) (omega arith))
     updates-in (Forwards n) u e = calculator-in m h _ (written-in (m .calculator) (h .calculator) n (cellOf u) (u .node .note .1 .0) (e .target .most))
 
     sizes-in : (d : SizeDeed) → SizeDeedIn b (localAt m t .seen) d → MachineIn b (sizes d t o m)
@@ -578,12 +591,12 @@ module _ (b : Bounds) where
   goesOn-in : (n : Next) (t : ThreadId) (o : OpId) (m : Machine) → NextIn b n → MachineIn b m → MachineIn b (goesOn n t o m)
   goesOn-in (To p) t o m e h = local-in m h t _ e (h .kept t)
   goesOn-in (Returns a) t o m e h =
-      local-in _ (record-in m h o _ (outcome-in (recordAt m o) (h .records o) _ (record { answer = λ q. e; given = λ q. e }))) t _ tt (h .kept t)
+      local-in _ (record-in m h o _ (outcome-in (recordAt m o) (h .records o) _ (record { answer = λ q. e; given = λ q. e; raiser = h .records o .outcome .raiser }))) t _ tt (h .kept t)
 
   -- a whole access, in bounds that have room for its step
-  pub accessed-in : (m : Machine) (t : ThreadId) → more (m .clock) ≤ b .clock → m .calculator .current .0 ≤ b .current → NextIn b (moveOf m t .next) → DeedIn b (localAt m t .seen) (moveOf m t .deed)
+  pub accessed-in : (m : Machine) (t : ThreadId) → more (m .clock) ≤ b .clock → m .calculator .current .0 ≤ b .current → t .0 < b .threads → NextIn b (moveOf m t .next) → DeedIn b (localAt m t .seen) (moveOf m t .deed)
       → MachineIn b m → MachineIn b (accessed m t)
   unfolding accessed
-  accessed-in m t c k n d h =
+  accessed-in m t c k tb n d h =
       let o = localAt m t .op in
-      goesOn-in (moveOf m t .next) t o _ n (does-in t o (ticked o m) (ticked-in o m h) c k (moveOf m t .deed) d)
+      goesOn-in (moveOf m t .next) t o _ n (does-in t o (ticked o m) (ticked-in o m h) c k tb (moveOf m t .deed) d)

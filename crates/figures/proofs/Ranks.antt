@@ -175,10 +175,10 @@ module _ (n : ℕ) (own : ℕ) where
   module _ (k : Call) (h : k ≢ Size) where
     fits-update : (v : UpdateNext) (u : Update) (a : After) → NextFits n k (updateNext v u a) own
     fits-update (Then p) u a = h
-    fits-update Done u (Answer a) = λ e. absurd (h e)
-    fits-update Done u (ToMark a) = h
-    fits-update Done u (ToHelpUnlink a b) = h
-    fits-update Done u (ToUnlink a b) = h
+    fits-update (Done r) u (Answer a) = λ e. absurd (h e)
+    fits-update (Done r) u (ToMark a) = h
+    fits-update (Done r) u (ToHelpUnlink a b) = h
+    fits-update (Done r) u (ToUnlink a b) = h
 
     fits-link : (a : Node) (c : Content) → NextFits n k (linkFound a c .next) own
     fits-link a Empty = h

@@ -126,7 +126,7 @@ module _ (m : Machine) (h : Shape m) where
       }
 
 module _ (t : ThreadId) (o : OpId) (l : t .0 < 8) where
-  shape-updates : (d : UpdateDeed) (u : Update) (m : Machine) → Shape m → Shape (updates d u m)
+  shape-updates : (d : UpdateDeed) (u : Update) (m : Machine) → Shape m → Shape (updates d u t m)
   shape-updates Reads u m h = h
   shape-updates Raises u m h = shape-record _ (shape-calculator m h _ (shape-raised (m .calculator) (h .calculator) (cellOf u) (u .node .note .1 .0))) _ _
   shape-updates (Forwards n) u m h = shape-calculator m h _ (shape-written (m .calculator) (h .calculator) n (cellOf u) (u .node .note .1 .0))

@@ -122,10 +122,10 @@ found-reach T Size c = refl
 
 update-reach : (T : ℕ) (x : UpdateNext) (u : Update) (a : After) → onReach T (updateNext x u a) ≡ 0
 update-reach T (Then p) u a = refl
-update-reach T Done u (Answer a) = refl
-update-reach T Done u (ToMark n) = refl
-update-reach T Done u (ToHelpUnlink n d) = refl
-update-reach T Done u (ToUnlink n d) = refl
+update-reach T (Done r) u (Answer a) = refl
+update-reach T (Done r) u (ToMark n) = refl
+update-reach T (Done r) u (ToHelpUnlink n d) = refl
+update-reach T (Done r) u (ToUnlink n d) = refl
 
 link-move : (T : ℕ) (g : Target) (n : Node) (c : Content) → SumMove T (Link g) (linkFound n c)
 link-move T g n Empty = sets refl refl refl refl

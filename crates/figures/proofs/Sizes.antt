@@ -272,7 +272,7 @@ module _ (n : ℕ) (t : ThreadId) (o : OpId) (k : Call) (seen : List Counts) (s 
 
 -- what a step leaves as the current snapshot
 module _ (t : ThreadId) (o : OpId) (m : Machine) where
-  current-updates : (d : UpdateDeed) (u : Update) → updates d u m .calculator .current .0 ≡ m .calculator .current .0
+  current-updates : (d : UpdateDeed) (u : Update) → updates d u t m .calculator .current .0 ≡ m .calculator .current .0
   current-updates Reads u = refl
   current-updates Raises u = refl
   current-updates (Forwards n) u = refl

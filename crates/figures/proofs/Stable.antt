@@ -200,11 +200,11 @@ module _ {T n x t a : ℕ} {w w' : World} (core : Core T n x w) (g : Grows x t a
   pub atUpdate-grows : {u : Update} (p : UpdatePoint) → Noted w (u .node) (u .kind) (key w (updateOp u)) → AtUpdate w u p → AtUpdate w' u p
   atUpdate-grows ReadCount m h = tt
   atUpdate-grows RaiseCount m h = tt
-  atUpdate-grows {u} ReadCurrent m h = rw (risen-grows (updateOp u) h .0) h
-  atUpdate-grows (ReadFlag s) m h = raised-grows h
-  atUpdate-grows (ReadAgain s) m h = sighted-grows h
-  atUpdate-grows (ReadCell s) m h = forwarding-grows h
-  atUpdate-grows (Forward s v) m h = (forwarding-grows (h .0), h .1)
+  atUpdate-grows {u} (ReadCurrent r) m h = rw (risen-grows (updateOp u) h .0) h
+  atUpdate-grows (ReadFlag r s) m h = raised-grows h
+  atUpdate-grows (ReadAgain r s) m h = sighted-grows h
+  atUpdate-grows (ReadCell r s) m h = forwarding-grows h
+  atUpdate-grows (Forward r s v) m h = (forwarding-grows (h .0), h .1)
 
   -- ---- An operation that does not step.
 

@@ -54,10 +54,10 @@ busy-found Size c = tt
 
 busy-update : (n : UpdateNext) (u : Update) (a : After) → Busy (updateNext n u a)
 busy-update (Then p) u a = tt
-busy-update Done u (Answer a) = tt
-busy-update Done u (ToMark n) = tt
-busy-update Done u (ToHelpUnlink n d) = tt
-busy-update Done u (ToUnlink n d) = tt
+busy-update (Done r) u (Answer a) = tt
+busy-update (Done r) u (ToMark n) = tt
+busy-update (Done r) u (ToHelpUnlink n d) = tt
+busy-update (Done r) u (ToUnlink n d) = tt
 
 busy-link : (n : Node) (c : Content) → Busy (linkFound n c .next)
 busy-link n Empty = tt

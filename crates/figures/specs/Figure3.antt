@@ -149,7 +149,7 @@ afterwards (ToUnlink n d) = To (Unlink n d)
 
 abbrev pub updateNext : UpdateNext → Update → After → Next
 updateNext (Then p) u a = To (Updating p u a)
-updateNext Done u a = afterwards a
+updateNext (Done raised) u a = afterwards a
 
 abbrev pub updating : UpdatePoint → Update → After → Sight → Move
 updating p u a s =

@@ -23,34 +23,35 @@ use Rattle.figures.specs.Figure6.{onTo, done, readCell, forward, firstCe
 
 -- line 78: read the counter; if it is c−1, exchange
 abbrev pub readCount : Target → Sight → UpdateMove
-readCount c s = onTo (cond (eqb (s .count) (c .0 - 1)) RaiseCount ReadCurrent)
+readCount c s = onTo (cond (eqb (s .count) (c .0 - 1)) RaiseCount (ReadCurrent false))
 
--- line 79: exchange c−1 for c
+-- line 79: exchange c−1 for c; this call raised the counter if that succeeded
 abbrev pub raiseCount : Target → Sight → UpdateMove
 raiseCount c s =
-    record { next = Then ReadCurrent; deed = cond (eqb (s .count) (c .0 - 1)) Raises Reads }
+    let raised = eqb (s .count) (c .0 - 1) in
+    record { next = Then (ReadCurrent raised); deed = cond raised Raises Reads }
 
 -- line 80: read which snapshot is current
-abbrev pub readCurrent : Sight → UpdateMove
-readCurrent s = onTo (ReadFlag (s .current))
+abbrev pub readCurrent : Bool → Sight → UpdateMove
+readCurrent raised s = onTo (ReadFlag raised (s .current))
 
 -- line 81: read its flag. If not collecting, done
-abbrev pub readFlag : SnapshotId → Sight → UpdateMove
-readFlag n s = cond (s .collecting) (onTo (ReadAgain n)) done
+abbrev pub readFlag : Bool → SnapshotId → Sight → UpdateMove
+readFlag raised n s = cond (s .collecting) (onTo (ReadAgain raised n)) (done raised)
 
 -- line 82: read the counter; unless it is c, done
-abbrev pub readAgain : SnapshotId → Target → Sight → UpdateMove
-readAgain n c s = cond (eqb (s .count) (c .0)) (onTo (ReadCell n)) done
+abbrev pub readAgain : Bool → SnapshotId → Target → Sight → UpdateMove
+readAgain raised n c s = cond (eqb (s .count) (c .0)) (onTo (ReadCell raised n)) (done raised)
 
 -- lines 75 to 83: one access of updateMetadata for target c
 abbrev pub updateAt : UpdatePoint → Target → Sight → UpdateMove
 updateAt ReadCount c s = readCount c s
 updateAt RaiseCount c s = raiseCount c s
-updateAt ReadCurrent c s = readCurrent s
-updateAt (ReadFlag n) c s = readFlag n s
-updateAt (ReadAgain n) c s = readAgain n c s
-updateAt (ReadCell n) c s = readCell n c s
-updateAt (Forward n known) c s = forward n known c s
+updateAt (ReadCurrent raised) c s = readCurrent raised s
+updateAt (ReadFlag raised n) c s = readFlag raised n s
+updateAt (ReadAgain raised n) c s = readAgain raised n c s
+updateAt (ReadCell raised n) c s = readCell raised n c s
+updateAt (Forward raised n known) c s = forward raised n known c s
 
 -- line 63: read the current snapshot
 abbrev pub findCurrent : Sight → SizeMove
@@ -94,11 +95,11 @@ none = record { 0 = 0 }
 abbrev pub updateLooksAt : UpdatePoint → SnapshotId
 updateLooksAt ReadCount = none
 updateLooksAt RaiseCount = none
-updateLooksAt ReadCurrent = none
-updateLooksAt (ReadFlag n) = n
-updateLooksAt (ReadAgain n) = n
-updateLooksAt (ReadCell n) = n
-updateLooksAt (Forward n known) = n
+updateLooksAt (ReadCurrent raised) = none
+updateLooksAt (ReadFlag raised n) = n
+updateLooksAt (ReadAgain raised n) = n
+updateLooksAt (ReadCell raised n) = n
+updateLooksAt (Forward raised n known) = n
 
 abbrev pub sizeLooksAt : SizePoint → SnapshotId
 sizeLooksAt FindCurrent = none

@@ -26,28 +26,28 @@ use Rattle.figures.specs.declared.SizeMove.{SizeMove}
 use Rattle.figures.specs.Limits.{invalid}
 use Rattle.figures.specs.Figure4.{moreByte, countOf}
 
--- an access that changes nothing: on to the next, or the end of the update
+-- an access that changes nothing: on to the next, or the end of the update. It reports `raised`: whether this call raised the counter
 abbrev pub onTo : UpdatePoint → UpdateMove
 onTo p = record { next = Then p; deed = Reads }
 
-abbrev pub done : UpdateMove
-done = record { next = Done; deed = Reads }
+abbrev pub done : Bool → UpdateMove
+done raised = record { next = Done raised; deed = Reads }
 
 -- lines 97 and 98: while the cell is INVALID or below the target, exchange the known value
 abbrev pub behind : ℕ → Target → Bool
 behind v c = eqb v invalid || ltb v (c .0)
 
-abbrev pub forwardFrom : SnapshotId → Target → ℕ → UpdateMove
-forwardFrom n c v = cond (behind v c) (onTo (Forward n v)) done
+abbrev pub forwardFrom : Bool → SnapshotId → Target → ℕ → UpdateMove
+forwardFrom raised n c v = cond (behind v c) (onTo (Forward raised n v)) (done raised)
 
 -- line 96: read the cell
-abbrev pub readCell : SnapshotId → Target → Sight → UpdateMove
-readCell n c s = forwardFrom n c (s .cell)
+abbrev pub readCell : Bool → SnapshotId → Target → Sight → UpdateMove
+readCell raised n c s = forwardFrom raised n c (s .cell)
 
 -- line 99: exchange the known value for the target, ending on success and otherwise taking the witnessed value
-abbrev pub forward : SnapshotId → ℕ → Target → Sight → UpdateMove
-forward n known c s =
-    cond (eqb (s .cell) known) (record { next = Done; deed = Forwards n }) (forwardFrom n c (s .cell))
+abbrev pub forward : Bool → SnapshotId → ℕ → Target → Sight → UpdateMove
+forward raised n known c s =
+    cond (eqb (s .cell) known) (record { next = Done raised; deed = Forwards n }) (forwardFrom raised n c (s .cell))
 
 -- the cells in order: for each thread, insertion then deletion
 abbrev pub firstCell : Cell

@@ -9,5 +9,7 @@ pub mod Start
 pub mod Places
 pub mod Counts
 pub mod Events
+pub mod MetadataUpdates
+pub mod Raisers
 pub mod Rules
 pub mod Ranges

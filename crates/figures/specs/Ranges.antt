@@ -76,11 +76,11 @@ CellIn b j = j .thread .0 < b .threads
 abbrev pub UpdatePointIn : Bounds → UpdatePoint → Type 0
 UpdatePointIn b ReadCount = Unit {0}
 UpdatePointIn b RaiseCount = Unit {0}
-UpdatePointIn b ReadCurrent = Unit {0}
-UpdatePointIn b (ReadFlag n) = SnapshotIdIn b n
-UpdatePointIn b (ReadAgain n) = SnapshotIdIn b n
-UpdatePointIn b (ReadCell n) = SnapshotIdIn b n
-UpdatePointIn b (Forward n known) = SnapshotIdIn b n × InvalidOr (b .clock) known
+UpdatePointIn b (ReadCurrent raised) = Unit {0}
+UpdatePointIn b (ReadFlag raised n) = SnapshotIdIn b n
+UpdatePointIn b (ReadAgain raised n) = SnapshotIdIn b n
+UpdatePointIn b (ReadCell raised n) = SnapshotIdIn b n
+UpdatePointIn b (Forward raised n known) = SnapshotIdIn b n × InvalidOr (b .clock) known
 
 abbrev pub SizePointIn : Bounds → SizePoint → Type 0
 SizePointIn b FindCurrent = Unit {0}
@@ -111,10 +111,11 @@ PointIn b (Mark n c) = NodeIn b n × TargetIn b (c .0)
 PointIn b (Unlink n d) = NodeIn b n × NodeIn b d
 PointIn b (Sizing p) = SizePointIn b p
 
--- an answer that was given is at most the number of keys
+-- an answer that was given is at most the number of keys; a raiser is a thread
 pub record OutcomeIn (b : Bounds) (x : Outcome) : Type 0 where
   pub answer : InvalidOr (b .keys) (x .answer)
   pub given : 0 < x .last → x .answer ≤ b .keys
+  pub raiser : x .raiser ≢ invalid → x .raiser < b .threads
 
 -- what the log needs of an operation; the target is 0 before the slot exchange
 pub record LookIn (b : Bounds) (x : Look) : Type 0 where

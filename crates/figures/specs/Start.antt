@@ -32,7 +32,7 @@ abbrev pub unbegun : ℕ → ℕ → Record
 unbegun thread b =
     record {
       asked = record { thread = record { 0 = thread }; call = callOf b; key = keyOf b };
-      outcome = record { answer = invalid; first = 0; last = 0; own = 0 };
+      outcome = record { answer = invalid; first = 0; last = 0; own = 0; raiser = invalid };
       look = record { read = 0; found = Empty };
       change = record { target = record { 0 = 0 }; exchanged = 0; raised = 0; window = none };
       snapshot = none;

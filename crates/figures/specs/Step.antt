@@ -52,7 +52,7 @@ abbrev pub noRecord : Record
 noRecord =
     record {
       asked = record { thread = record { 0 = 0 }; call = Insert; key = 0 };
-      outcome = record { answer = 0; first = 0; last = 0; own = 0 };
+      outcome = record { answer = 0; first = 0; last = 0; own = 0; raiser = 0 };
       look = record { read = 0; found = Empty };
       change = record { target = record { 0 = 0 }; exchanged = 0; raised = 0; window = none };
       snapshot = none;
@@ -157,14 +157,20 @@ abbrev pub counted : ℕ → Record → Record
 counted step r =
     let x = r .outcome in
     withOutcome
-    (record { answer = x .answer; first = cond (eqb (x .first) 0) step (x .first); last = x .last; own = more (x .own) })
+    (record {
+      answer = x .answer;
+      first = cond (eqb (x .first) 0) step (x .first);
+      last = x .last;
+      own = more (x .own);
+      raiser = x .raiser;
+    })
     r
 
 -- it returned the answer a at this step
 abbrev pub answered : ℕ → ℕ → Record → Record
 answered a step r =
     let x = r .outcome in
-    withOutcome (record { answer = a; first = x .first; last = step; own = x .own }) r
+    withOutcome (record { answer = a; first = x .first; last = step; own = x .own; raiser = x .raiser }) r
 
 -- its slot exchange succeeded, with target c
 abbrev pub exchangedAt : Target → ℕ → Record → Record
@@ -172,11 +178,13 @@ exchangedAt c step r =
     let x = r .change in
     withChange (record { target = c; exchanged = step; raised = x .raised; window = x .window }) r
 
--- its counter came to its target, while snapshot w was being collected
-abbrev pub raisedAt : ℕ → SnapshotId → Record → Record
-raisedAt step w r =
+-- its counter came to its target, while snapshot w was being collected, by a step of thread t
+abbrev pub raisedAt : ℕ → SnapshotId → ThreadId → Record → Record
+raisedAt step w t r =
     let x = r .change in
-    withChange (record { target = x .target; exchanged = x .exchanged; raised = step; window = w }) r
+    let y = r .outcome in
+    withOutcome (record { answer = y .answer; first = y .first; last = y .last; own = y .own; raiser = t .0 })
+    (withChange (record { target = x .target; exchanged = x .exchanged; raised = step; window = w }) r)
 
 -- a thread with the values that it has read for its sum; where it goes on; after a return
 abbrev pub withSeen : List Counts → Local → Local
@@ -199,12 +207,12 @@ moved t f m = withLocal t (f (localAt m t)) m
 abbrev pub calculated : (Calculator → Calculator) → Machine → Machine
 calculated f m = withCalculator (f (m .calculator)) m
 
-abbrev pub updates : UpdateDeed → Update → Machine → Machine
-updates Reads u m = m
-updates Raises u m =
-    rewritten (u .node .op) (raisedAt (m .clock) (windowOf (m .calculator)))
+abbrev pub updates : UpdateDeed → Update → ThreadId → Machine → Machine
+updates Reads u t m = m
+updates Raises u t m =
+    rewritten (u .node .op) (raisedAt (m .clock) (windowOf (m .calculator)) t)
     (calculated (raised (cellOf u) (u .node .note .1 .0)) m)
-updates (Forwards n) u m = calculated (written n (cellOf u) (u .node .note .1 .0)) m
+updates (Forwards n) u t m = calculated (written n (cellOf u) (u .node .note .1 .0)) m
 
 abbrev pub sizes : SizeDeed → ThreadId → OpId → Machine → Machine
 sizes Looks t o m = m
@@ -224,7 +232,7 @@ does (Links n) t o m =
 does (Marks n d) t o m =
     withContent (recordAt m o .asked .key) (Marked n d) (rewritten o (exchangedAt (d .note .1) (m .clock)) m)
 does Unlinks t o m = withContent (recordAt m o .asked .key) Empty m
-does (Updates d u) t o m = updates d u m
+does (Updates d u) t o m = updates d u t m
 does (Sizes d) t o m = sizes d t o m
 
 -- where the thread goes on; a return is the operation's last step

@@ -78,15 +78,16 @@ pub struct Sight {
     pub size: u32,
 }
 
-// The accesses of updateMetadata (figure 5, lines 75 to 83) and forward (figure 6, lines 95 to 103).
+// The accesses of updateMetadata (figure 5, lines 75 to 83) and forward (figure 6, lines 95 to 103). Those after the exchange of the
+// counter know whether this call raised it.
 pub enum UpdatePoint {
     ReadCount,
     RaiseCount,
-    ReadCurrent,
-    ReadFlag(SnapshotId),
-    ReadAgain(SnapshotId),
-    ReadCell(SnapshotId),
-    Forward(SnapshotId, u32),
+    ReadCurrent(bool),
+    ReadFlag(bool, SnapshotId),
+    ReadAgain(bool, SnapshotId),
+    ReadCell(bool, SnapshotId),
+    Forward(bool, SnapshotId, u32),
 }
 
 // What such an access changes: nothing, the counter, or the snapshot's cell.
@@ -96,9 +97,10 @@ pub enum UpdateDeed {
     Forwards(SnapshotId),
 }
 
+// Where an update goes on, or what it reports at its end: whether this call raised the counter.
 pub enum UpdateNext {
     Then(UpdatePoint),
-    Done,
+    Done(bool),
 }
 
 pub struct UpdateMove {
@@ -232,12 +234,14 @@ pub struct Asked {
     pub key: u8,
 }
 
-// The four numbers that are handed back: answer, first step, last step, own steps.
+// The five numbers that are handed back: answer, first step, last step, own steps, and the thread that raised the update's counter
+// (INVALID for anything but a raised update).
 pub struct Outcome {
     pub answer: u32,
     pub first: u32,
     pub last: u32,
     pub own: u32,
+    pub raiser: u32,
 }
 
 // The last slot read: its step, and what it found.
@@ -329,6 +333,7 @@ fn unbegun(thread: u8, b: u8) -> Record
             first: 0,
             last: 0,
             own: 0,
+            raiser: Machine::INVALID,
         },
         look: Look {
             read: 0,
@@ -454,7 +459,7 @@ impl Machine {
     pub const OPERATIONS: usize = 64;
 
     pub const STEPS: usize = 4096;
-    // A cell or a size that is not there yet; an answer that is not given yet.
+    // A cell or a size that is not there yet; an answer that is not given yet; a raiser where there is none.
     pub const INVALID: u32 = 4294967295;
 
     // The state before the first step, of a run of so many threads and keys: one count per thread, and the operation bytes.

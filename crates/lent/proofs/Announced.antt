@@ -78,11 +78,11 @@ Past n = 0 < n .0
 abbrev UpdatePast : UpdatePoint → Type 0
 UpdatePast ReadCount = Unit {0}
 UpdatePast RaiseCount = Unit {0}
-UpdatePast ReadCurrent = Unit {0}
-UpdatePast (ReadFlag n) = Unit {0}
-UpdatePast (ReadAgain n) = Past n
-UpdatePast (ReadCell n) = Past n
-UpdatePast (Forward n known) = Past n
+UpdatePast (ReadCurrent r) = Unit {0}
+UpdatePast (ReadFlag r n) = Unit {0}
+UpdatePast (ReadAgain r n) = Past n
+UpdatePast (ReadCell r n) = Past n
+UpdatePast (Forward r n known) = Past n
 
 abbrev SizePast : SizePoint → Type 0
 SizePast FindCurrent = Unit {0}
@@ -109,7 +109,7 @@ PointPast (Sizing p) = SizePast p
 
 abbrev UpdateNextPast : UpdateNext → Type 0
 UpdateNextPast (Then p) = UpdatePast p
-UpdateNextPast Done = Unit {0}
+UpdateNextPast (Done r) = Unit {0}
 
 abbrev SizeNextPast : SizeNext → Type 0
 SizeNextPast (Goes p) = SizePast p
@@ -167,22 +167,22 @@ module _ (b : Bounds) (s : Sight) (current : s .current .0 ≡ b .current) (few 
       go (yes q) = tests-differ e (f q)
       go (no k) = omega arith
 
-  forward-goes : (u : Update) (n : SnapshotId) (c : Target) (v : ℕ) → Past n → UpdateGoes (b .threads) u (forwardFrom n c v)
-  forward-goes u n c v h =
+  forward-goes : (u : Update) (r : Bool) (n : SnapshotId) (c : Target) (v : ℕ) → Past n → UpdateGoes (b .threads) u (forwardFrom r n c v)
+  forward-goes u r n c v h =
       cond-both (UpdateGoes (b .threads) u) (behind v c) _ _ (record { next = h; deed = tt }) (record { next = tt; deed = tt })
 
   update-goes : (u : Update) (p : UpdatePoint) (c : Target) → (looksAtSnapshot (Updating p u (Answer 0)) .0 ≡ 0 → s .collecting ≡ false)
       → cellOf u .thread .0 < b .threads → UpdatePast p → UpdateGoes (b .threads) u (updateAt p c s)
-  update-goes u ReadCount c f l h = record { next = cond-both UpdatePast (eqb (s .count) (c .0 - 1)) RaiseCount ReadCurrent tt tt; deed = tt }
+  update-goes u ReadCount c f l h = record { next = cond-both UpdatePast (eqb (s .count) (c .0 - 1)) RaiseCount (ReadCurrent false) tt tt; deed = tt }
   update-goes u RaiseCount c f l h = record { next = tt; deed = cond-both (UpdateSpares (b .threads) u) (eqb (s .count) (c .0 - 1)) Raises Reads tt tt }
-  update-goes u ReadCurrent c f l h = record { next = tt; deed = tt }
-  update-goes u (ReadFlag n) c f l h =
+  update-goes u (ReadCurrent r) c f l h = record { next = tt; deed = tt }
+  update-goes u (ReadFlag r n) c f l h =
       cond-case (UpdateGoes (b .threads) u) (s .collecting) _ _ (λ e. record { next = flagged n f e; deed = tt }) (λ e. record { next = tt; deed = tt })
-  update-goes u (ReadAgain n) c f l h =
+  update-goes u (ReadAgain r n) c f l h =
       cond-both (UpdateGoes (b .threads) u) (eqb (s .count) (c .0)) _ _ (record { next = h; deed = tt }) (record { next = tt; deed = tt })
-  update-goes u (ReadCell n) c f l h = forward-goes u n c (s .cell) h
-  update-goes u (Forward n known) c f l h =
-      cond-both (UpdateGoes (b .threads) u) (eqb (s .cell) known) _ _ (record { next = tt; deed = (h, l) }) (forward-goes u n c (s .cell) h)
+  update-goes u (ReadCell r n) c f l h = forward-goes u r n c (s .cell) h
+  update-goes u (Forward r n known) c f l h =
+      cond-both (UpdateGoes (b .threads) u) (eqb (s .cell) known) _ _ (record { next = tt; deed = (h, l) }) (forward-goes u r n c (s .cell) h)
 
   collect-past : (n : SnapshotId) (j : Cell) → Past n → SizePast (collectNext (b .threads) n j)
   collect-past n j h = cond-both SizePast (ltb (nextCell j .thread .0) (b .threads)) (CollectCount n (nextCell j)) (LowerFlag n) h h
@@ -211,10 +211,10 @@ module _ (b : Bounds) (s : Sight) (current : s .current .0 ≡ b .current) (few 
 
   update-next : (v : UpdateNext) (u : Update) (a : After) → UpdateNextPast v → NextPast (updateNext v u a)
   update-next (Then p) u a h = h
-  update-next Done u (Answer a) h = tt
-  update-next Done u (ToMark n) h = tt
-  update-next Done u (ToHelpUnlink n d) h = tt
-  update-next Done u (ToUnlink n d) h = tt
+  update-next (Done r) u (Answer a) h = tt
+  update-next (Done r) u (ToMark n) h = tt
+  update-next (Done r) u (ToHelpUnlink n d) h = tt
+  update-next (Done r) u (ToUnlink n d) h = tt
 
   size-next : (v : SizeNext) → SizeNextPast v → NextPast (sizeNext v)
   size-next (Goes p) h = h
@@ -324,7 +324,7 @@ module _ (threads : ℕ) (t : ThreadId) (o : OpId) (m : Machine) (few : m .calcu
   abbrev ys : List Snapshot
   ys = m .calculator .snapshots
 
-  calm-updates : (d : UpdateDeed) (u : Update) → UpdateSpares threads u d → CalmIn threads (updates d u m)
+  calm-updates : (d : UpdateDeed) (u : Update) → UpdateSpares threads u d → CalmIn threads (updates d u t m)
   calm-updates Reads u k = h
   calm-updates Raises u k = h
   calm-updates (Forwards n) u k = stored threads ys (m .locals) h (n .0) _ (k .0) (cell-absent threads ys (m .locals) h (n .0) _ (cellOf u) (k .1))

@@ -2,7 +2,7 @@
 -- size's third own step. And it looks at no snapshot past the current one.
 use Prim.Native.Nat.{ℕ, _-_, _≤_}
 use mathlib.Core.Path.{_≡_, refl}
-use mathlib.Core.Bool.{true}
+use mathlib.Core.Bool.{Bool, true}
 use mathlib.Core.List.{List}
 use native.Mathlib.Omega.{arith}
 use lib.Dec.{eqb}
@@ -71,18 +71,18 @@ DeedFits current k own (Updates d u) = UpdateFits current d
 DeedFits current k own (Sizes d) = SizeFits current k own d
 
 module _ (b : Bounds) (t : ThreadId) (o : OpId) (k : Call) (n : ℕ) (seen : List Counts) (s : Sight) (c : Content) (own : ℕ) where
-  forward-fits : (i : SnapshotId) (g : Target) (v : ℕ) → UpdateFits (b .current) (forwardFrom i g v .deed)
-  forward-fits i g v = cond-both (λ (x : UpdateMove). UpdateFits (b .current) (x .deed)) (behind v g) _ _ tt tt
+  forward-fits : (r : Bool) (i : SnapshotId) (g : Target) (v : ℕ) → UpdateFits (b .current) (forwardFrom r i g v .deed)
+  forward-fits r i g v = cond-both (λ (x : UpdateMove). UpdateFits (b .current) (x .deed)) (behind v g) _ _ tt tt
 
   update-fits : (p : UpdatePoint) (g : Target) → UpdatePointIn b p → UpdateFits (b .current) (updateAt p g s .deed)
   update-fits ReadCount g h = tt
   update-fits RaiseCount g h = cond-both (UpdateFits (b .current)) (eqb (s .count) (g .0 - 1)) Raises Reads tt tt
-  update-fits ReadCurrent g h = tt
-  update-fits (ReadFlag i) g h = cond-both (λ (x : UpdateMove). UpdateFits (b .current) (x .deed)) (s .collecting) _ _ tt tt
-  update-fits (ReadAgain i) g h = cond-both (λ (x : UpdateMove). UpdateFits (b .current) (x .deed)) (eqb (s .count) (g .0)) _ _ tt tt
-  update-fits (ReadCell i) g h = forward-fits i g (s .cell)
-  update-fits (Forward i known) g h =
-      cond-both (λ (x : UpdateMove). UpdateFits (b .current) (x .deed)) (eqb (s .cell) known) _ _ (h .0) (forward-fits i g (s .cell))
+  update-fits (ReadCurrent r) g h = tt
+  update-fits (ReadFlag r i) g h = cond-both (λ (x : UpdateMove). UpdateFits (b .current) (x .deed)) (s .collecting) _ _ tt tt
+  update-fits (ReadAgain r i) g h = cond-both (λ (x : UpdateMove). UpdateFits (b .current) (x .deed)) (eqb (s .count) (g .0)) _ _ tt tt
+  update-fits (ReadCell r i) g h = forward-fits r i g (s .cell)
+  update-fits (Forward r i known) g h =
+      cond-both (λ (x : UpdateMove). UpdateFits (b .current) (x .deed)) (eqb (s .cell) known) _ _ (h .0) (forward-fits r i g (s .cell))
 
   size-fits : (p : SizePoint) → k ≡ Size → SizePointIn b p → Ranked n p own → SizeFits (b .current) k own (sizeAt p n seen s .deed)
   size-fits FindCurrent e h r = tt
@@ -137,11 +137,11 @@ announcement-third current k own (Sizes d) e f = announcing-third current k own 
 update-looks : (b : Bounds) (p : UpdatePoint) → UpdatePointIn b p → updateLooksAt p .0 ≤ b .current
 update-looks b ReadCount h = omega arith
 update-looks b RaiseCount h = omega arith
-update-looks b ReadCurrent h = omega arith
-update-looks b (ReadFlag n) h = h
-update-looks b (ReadAgain n) h = h
-update-looks b (ReadCell n) h = h
-update-looks b (Forward n known) h = h .0
+update-looks b (ReadCurrent r) h = omega arith
+update-looks b (ReadFlag r n) h = h
+update-looks b (ReadAgain r n) h = h
+update-looks b (ReadCell r n) h = h
+update-looks b (Forward r n known) h = h .0
 
 size-looks : (b : Bounds) (p : SizePoint) → SizePointIn b p → sizeLooksAt p .0 ≤ b .current
 size-looks b FindCurrent h = omega arith

@@ -55,7 +55,7 @@ module _ (m : Machine) (lent : List Snapshot)
   abbrev current : ℕ
   current = m .calculator .current .0
 
-  along-updates : (d : UpdateDeed) (u : Update) (k : Call) (own : ℕ) → DeedFits current k own (Updates d u) → Along m lent (updates d u x) (updates d u y)
+  along-updates : (d : UpdateDeed) (u : Update) (k : Call) (own : ℕ) → DeedFits current k own (Updates d u) → Along m lent (updates d u t x) (updates d u t y)
   along-updates Reads u k own h = record { table = lent; same = refl; change = kept refl refl refl }
   along-updates Raises u k own h = record { table = lent; same = refl; change = kept refl refl refl }
   along-updates (Forwards n) u k own h =

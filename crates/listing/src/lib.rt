@@ -83,6 +83,15 @@ fn print_answer(out: i32, asked: u8, answer: u32, last: u32) {
     }
 }
 
+// The thread that raised an update; none for anything else.
+fn print_raiser(out: i32, raiser: u32) {
+    if raiser == Machine::INVALID {
+        print_words(out, b" raisedby -");
+    } else {
+        print_field(out, b" raisedby ", raiser as u64);
+    }
+}
+
 // One operation's line, with its numbers.
 fn print_operation(out: i32, o: usize, thread: usize, asked: u8, results: &[u32; RESULTS])
     requires { ⌜ o < mostOperations ⌝ }
@@ -95,6 +104,7 @@ fn print_operation(out: i32, o: usize, thread: usize, asked: u8, results: &[u32;
     print_field(out, b" first ", wide(results[at + 1]));
     print_field(out, b" last ", wide(results[at + 2]));
     print_field(out, b" own ", wide(results[at + 3]));
+    print_raiser(out, results[at + 4]);
     print_words(out, b"\n");
 }
 

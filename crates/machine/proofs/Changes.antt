@@ -58,5 +58,5 @@ actedBy d x step t o key m =
       calculator = calculatedBy d step (l .seen) (m .calculator);
       slots = set (m .slots) key (record { content = heldBy d (getD (m .slots) key noSlot .content) });
       locals = set (m .locals) t (stoodBy d x l);
-      records = raisedBy d step (windowOf (m .calculator)) (set (m .records) (o .0) (recordedBy step d x (getD (m .records) (o .0) noRecord)));
+      records = raisedBy d step (windowOf (m .calculator)) (record { 0 = t }) (set (m .records) (o .0) (recordedBy step d x (getD (m .records) (o .0) noRecord)));
     }

@@ -158,17 +158,17 @@ module _ (ts : List Trace) (long : length ts ≡ suc mostOperations) (w step : �
   traces-at (Exchanges n x) = change-at (suc mostOperations) ts long (n .0) (tracedOf x w step seen) noTrace
 
 -- the record of the operation that is raised
-module _ (rs : List Record) (long : length rs ≡ mostOperations) (step : ℕ) (w : SnapshotId) where
+module _ (rs : List Record) (long : length rs ≡ mostOperations) (step : ℕ) (w : SnapshotId) (t : ThreadId) where
   abbrev Raised : Deed → Type 0
   Raised d =
       set rs (at mostOperations (raisedOp d .0))
-      (cond (ltb (raisedOp d .0) mostOperations) (raisedAt step w (getD rs (at mostOperations (raisedOp d .0)) noRecord))
+      (cond (ltb (raisedOp d .0) mostOperations) (raisedAt step w t (getD rs (at mostOperations (raisedOp d .0)) noRecord))
       (getD rs (at mostOperations (raisedOp d .0)) noRecord))
-      ≡ raisedBy d step w rs
+      ≡ raisedBy d step w t rs
 
   update-raised : (d : UpdateDeed) (u : Update) → Raised (Updates d u)
   update-raised Reads u = same noRecord rs 0
-  update-raised Raises u = change-at mostOperations rs long (u .node .op .0) (raisedAt step w) noRecord
+  update-raised Raises u = change-at mostOperations rs long (u .node .op .0) (raisedAt step w t) noRecord
   update-raised (Forwards n) u = same noRecord rs 0
 
   raised-at : (d : Deed) → Raised d
@@ -247,14 +247,14 @@ module _ (m : Rest) (t : ThreadId) (long : Long m) where
         (set (m .slots) (at mostKeys key)
         (cond (ltb key mostKeys) (record { content = heldBy (v .deed) (heldIn m t) }) (getD (m .slots) (at mostKeys key) noSlot)))
         (set (m .locals) (t .0) (stoodBy (v .deed) (v .next) l))
-        (set own f (cond (ltb (raisedOp (v .deed) .0) mostOperations) (raisedAt clock (windowNow m) (getD own f noRecord))
+        (set own f (cond (ltb (raisedOp (v .deed) .0) mostOperations) (raisedAt clock (windowNow m) t (getD own f noRecord))
         (getD own f noRecord)))
         ≡ takenOf m t w
     stored =
         built clock (currentBy x (m .current)) (set (m .locals) (t .0) (stoodBy (v .deed) (v .next) l))
         (traces-at (m .traces) (long .traces) w clock (l .seen) x)
         (store-at mostKeys (m .slots) (long .slots) key noSlot (record { content = heldBy (v .deed) (heldIn m t) }))
-        (raised-at own (rw length-set (long .records)) clock (windowNow m) (v .deed) ∙ ap (raisedBy (v .deed) clock (windowNow m)) owned)
+        (raised-at own (rw length-set (long .records)) clock (windowNow m) t (v .deed) ∙ ap (raisedBy (v .deed) clock (windowNow m) t) owned)
 
   -- what the code has loaded is what the definition reads
   record Loaded (k : ℕ) (l : Local) (r : Record) (held : Content) : Type 0 where
@@ -306,7 +306,7 @@ module _ (m : Rest) (t : ThreadId) (long : Long m) where
         g ≡ at (suc mostOperations) (m .current .0) →
         w ≡ cond (ltb (m .current .0) (suc mostOperations)) (windowIn (m .current) (getD (m .traces) g noTrace .closed)) (m .current) →
         f ≡ at mostOperations (u .raised .0) →
-        raised ≡ cond (ltb (u .raised .0) mostOperations) (raisedAt step w (getD (set (m .records) e own) f noRecord))
+        raised ≡ cond (ltb (u .raised .0) mostOperations) (raisedAt step w t (getD (set (m .records) e own) f noRecord))
         (getD (set (m .records) e own) f noRecord) →
         slot ≡ cond (ltb (r .asked .key) mostKeys) (record { content = u .held }) (getD (m .slots) q noSlot) →
         trace ≡ cond (thereOf x) (traceBy x heard step (l .seen) (getD (m .traces) y noTrace)) (getD (m .traces) y noTrace) →

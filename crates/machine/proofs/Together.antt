@@ -105,11 +105,11 @@ module _ (m : Machine) (t : ThreadId) (o : OpId) where
       ∙ twice noRecord (counted step) (λ (r : Record). answered a step (g r)) (m .records) (o .0)
 
   raised-record : (x : Next) (w : SnapshotId) (u : OpId) →
-      ended x (raisedRecord step w u counts) ≡ raisedRecord step w u (set (m .records) (o .0) (answeredBy step x (counted step (recordAt m o))))
+      ended x (raisedRecord step w t u counts) ≡ raisedRecord step w t u (set (m .records) (o .0) (answeredBy step x (counted step (recordAt m o))))
   raised-record (To p) w u = refl
   raised-record (Returns a) w u =
-      sym (swap noRecord (answered a step) (raisedAt step w) (λ r. refl) counts (o .0) (u .0))
-      ∙ ap (raisedRecord step w u) (twice noRecord (counted step) (answered a step) (m .records) (o .0))
+      sym (swap noRecord (answered a step) (raisedAt step w t) (λ r. refl) counts (o .0) (u .0))
+      ∙ ap (raisedRecord step w t u) (twice noRecord (counted step) (answered a step) (m .records) (o .0))
 
   same-key : getD counts (o .0) noRecord .asked .key ≡ key
   same-key = kept noRecord (λ (r : Record). r .asked .key) (counted step) (λ r. refl) (m .records) (o .0)

@@ -80,8 +80,8 @@ module _ {A : Type 0} where
   either-store f d e (x ∷ l) (suc i) = ap (λ (r : List A). x ∷ r) (either-store f d e l i)
 
 -- the moves that change something, and a record with another cell
-abbrev forwarded : SnapshotId → UpdateMove
-forwarded n = record { next = Done; deed = Forwards n }
+abbrev forwarded : Bool → SnapshotId → UpdateMove
+forwarded h n = record { next = Done h; deed = Forwards n }
 
 abbrev announcing : SnapshotId → SizeMove
 announcing n = record { next = Goes (CollectCount (newId n) firstCell); deed = Announces }
@@ -149,11 +149,11 @@ module _ (t : ThreadId) (o : OpId) (k : Call) (threads : ℕ) (seen : List Count
   update-decides : (p : UpdatePoint) (u : Update) (a : After) → Decides (Updating p u a)
   update-decides ReadCount u a = refl
   update-decides RaiseCount u a = refl
-  update-decides ReadCurrent u a = refl
-  update-decides (ReadFlag n) u a = ap (λ (b : Bool). updating (ReadFlag n) u a (flagged b)) (raised-flag n)
-  update-decides (ReadAgain n) u a = refl
-  update-decides (ReadCell n) u a = ap (λ (v : ℕ). updating (ReadCell n) u a (valued v)) (cell-of n (cellOf u))
-  update-decides (Forward n known) u a = ap (λ (v : ℕ). updating (Forward n known) u a (valued v)) (cell-of n (cellOf u))
+  update-decides (ReadCurrent h) u a = refl
+  update-decides (ReadFlag h n) u a = ap (λ (b : Bool). updating (ReadFlag h n) u a (flagged b)) (raised-flag n)
+  update-decides (ReadAgain h n) u a = refl
+  update-decides (ReadCell h n) u a = ap (λ (v : ℕ). updating (ReadCell h n) u a (valued v)) (cell-of n (cellOf u))
+  update-decides (Forward h n known) u a = ap (λ (v : ℕ). updating (Forward h n known) u a (valued v)) (cell-of n (cellOf u))
 
   size-decides : (p : SizePoint) → Decides (Sizing p)
   size-decides FindCurrent = refl
@@ -225,9 +225,9 @@ module _ (t : ThreadId) (o : OpId) (k : Call) (threads : ℕ) (seen : List Count
   unchanged : (n : SnapshotId) → c ≡ changed (found n) n
   unchanged n = built refl refl (sym (same absent (c .snapshots) (n .0))) (same-trace n)
 
-  read-only : (p : UpdatePoint) (u : Update) (b : Bool) → updatedBy (cond b (onTo p) done .deed) u c ≡ c
-  read-only p u true = refl
-  read-only p u false = refl
+  read-only : (p : UpdatePoint) (h : Bool) (u : Update) (b : Bool) → updatedBy (cond b (onTo p) (done h) .deed) u c ≡ c
+  read-only p h u true = refl
+  read-only p h u false = refl
 
   raises : (u : Update) (a : After) → Changes (Updating RaiseCount u a)
   raises u a = go (eqb (countAt (c .counters) (cellOf u)) (u .node .note .1 .0 - 1))
@@ -244,12 +244,12 @@ module _ (t : ThreadId) (o : OpId) (k : Call) (threads : ℕ) (seen : List Count
       go true = built refl refl refl (same-trace none)
       go false = built (sym (same (both 0) (c .counters) (cellOf u .thread .0))) refl refl (same-trace none)
 
-  forwards : (n : SnapshotId) (known : ℕ) (u : Update) (a : After) → Changes (Updating (Forward n known) u a)
-  forwards n known u a = go (eqb (countAt (found n .cells) (cellOf u)) known)
+  forwards : (h : Bool) (n : SnapshotId) (known : ℕ) (u : Update) (a : After) → Changes (Updating (Forward h n known) u a)
+  forwards h n known u a = go (eqb (countAt (found n .cells) (cellOf u)) known)
       (behind (countAt (found n .cells) (cellOf u)) (u .node .note .1))
     where
       go : (b d : Bool) →
-          updatedBy (cond b (forwarded n) (cond d (onTo (Forward n (countAt (found n .cells) (cellOf u)))) done) .deed) u c ≡
+          updatedBy (cond b (forwarded h n) (cond d (onTo (Forward h n (countAt (found n .cells) (cellOf u)))) (done h)) .deed) u c ≡
           changed (cond b (withCell (cellOf u) (u .node .note .1 .0) (found n)) (found n)) n
       go true d = built refl refl (either-store (withCell (cellOf u) (u .node .note .1 .0)) noSnapshot absent (c .snapshots) (n .0))
           (same-trace n)
@@ -259,12 +259,12 @@ module _ (t : ThreadId) (o : OpId) (k : Call) (threads : ℕ) (seen : List Count
   update-changes : (p : UpdatePoint) (u : Update) (a : After) → Changes (Updating p u a)
   update-changes ReadCount u a = unasked none
   update-changes RaiseCount u a = raises u a
-  update-changes ReadCurrent u a = unasked none
-  update-changes (ReadFlag n) u a = read-only (ReadAgain n) u (not (eqb (hears (Updating (ReadFlag n) u a)) 0)) ∙ unasked n
-  update-changes (ReadAgain n) u a = read-only (ReadCell n) u (eqb (countAt (c .counters) (cellOf u)) (u .node .note .1 .0)) ∙ unasked none
-  update-changes (ReadCell n) u a = read-only (Forward n (countAt (found n .cells) (cellOf u))) u
+  update-changes (ReadCurrent h) u a = unasked none
+  update-changes (ReadFlag h n) u a = read-only (ReadAgain h n) h u (not (eqb (hears (Updating (ReadFlag h n) u a)) 0)) ∙ unasked n
+  update-changes (ReadAgain h n) u a = read-only (ReadCell h n) h u (eqb (countAt (c .counters) (cellOf u)) (u .node .note .1 .0)) ∙ unasked none
+  update-changes (ReadCell h n) u a = read-only (Forward h n (countAt (found n .cells) (cellOf u))) h u
       (behind (countAt (found n .cells) (cellOf u)) (u .node .note .1)) ∙ unasked n
-  update-changes (Forward n known) u a = forwards n known u a
+  update-changes (Forward h n known) u a = forwards h n known u a
 
   announces : (n : SnapshotId) → Changes (Sizing (Announce n))
   announces n = go (eqb (c .current .0) (n .0)) (hears (Sizing (Announce n)))
@@ -350,25 +350,25 @@ module _ (step : ℕ) (seen : List Counts) (c : Calculator) (h : Content) where
   pub record Still (d : Deed) : Type 0 where
     pub calculator : calculatedBy d step seen c ≡ c
     pub held : heldBy d h ≡ h
-    pub raised : (w : SnapshotId) (rs : List Record) → raisedBy d step w rs ≡ rs
+    pub raised : (w : SnapshotId) (t : ThreadId) (rs : List Record) → raisedBy d step w t rs ≡ rs
 
   updates-still : (d : UpdateDeed) (u : Update) → quiet (Updates d u) ≡ true → Still (Updates d u)
-  updates-still Reads u e = record { calculator = refl; held = refl; raised = λ w rs. refl }
+  updates-still Reads u e = record { calculator = refl; held = refl; raised = λ w t rs. refl }
   updates-still Raises u e = tests-differ e refl
   updates-still (Forwards n) u e = tests-differ e refl
 
   sizes-still : (d : SizeDeed) → quiet (Sizes d) ≡ true → Still (Sizes d)
-  sizes-still Looks e = record { calculator = refl; held = refl; raised = λ w rs. refl }
+  sizes-still Looks e = record { calculator = refl; held = refl; raised = λ w t rs. refl }
   sizes-still Announces e = tests-differ e refl
   sizes-still (Collects n j v) e = tests-differ e refl
   sizes-still (Lowers n) e = tests-differ e refl
-  sizes-still (Keeps j v) e = record { calculator = refl; held = refl; raised = λ w rs. refl }
+  sizes-still (Keeps j v) e = record { calculator = refl; held = refl; raised = λ w t rs. refl }
   sizes-still (Fixes n v) e = tests-differ e refl
-  sizes-still (Shares n) e = record { calculator = refl; held = refl; raised = λ w rs. refl }
+  sizes-still (Shares n) e = record { calculator = refl; held = refl; raised = λ w t rs. refl }
 
   pub still : (d : Deed) → quiet d ≡ true → Still d
-  still Rests e = record { calculator = refl; held = refl; raised = λ w rs. refl }
-  still (Finds f) e = record { calculator = refl; held = refl; raised = λ w rs. refl }
+  still Rests e = record { calculator = refl; held = refl; raised = λ w t rs. refl }
+  still (Finds f) e = record { calculator = refl; held = refl; raised = λ w t rs. refl }
   still (Links n) e = tests-differ e refl
   still (Marks n d) e = tests-differ e refl
   still Unlinks e = tests-differ e refl
@@ -434,7 +434,7 @@ module _ (m : Rest) (counters : List Counts) (table : List Snapshot) (t : Thread
       wholes (sym (z .calculator))
       (sym (ap (λ (h : Content). set (m .slots) (r .asked .key) (record { content = h })) (z .held)
       ∙ same noSlot (m .slots) (r .asked .key)))
-      (sym (z .raised (windowNow m)
+      (sym (z .raised (windowNow m) t
       (set (m .records) (l .op .0) (recordedBy (more (m .clock)) (moveIn m t w₀ .deed) (moveIn m t w₀ .next) r))))
       ∙ steps
     where

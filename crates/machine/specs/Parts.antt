@@ -105,22 +105,22 @@ heldBy (Sizes d) c = c
 
 -- ---- Of another operation's record: the update that is raised, by whichever thread, at this step, while snapshot w is being collected.
 
-abbrev pub raisedRecord : ℕ → SnapshotId → OpId → List Record → List Record
-raisedRecord step w o rs = set rs (o .0) (raisedAt step w (getD rs (o .0) noRecord))
+abbrev pub raisedRecord : ℕ → SnapshotId → ThreadId → OpId → List Record → List Record
+raisedRecord step w t o rs = set rs (o .0) (raisedAt step w t (getD rs (o .0) noRecord))
 
-abbrev pub raisesBy : UpdateDeed → Update → ℕ → SnapshotId → List Record → List Record
-raisesBy Reads u step w rs = rs
-raisesBy Raises u step w rs = raisedRecord step w (u .node .op) rs
-raisesBy (Forwards n) u step w rs = rs
+abbrev pub raisesBy : UpdateDeed → Update → ℕ → SnapshotId → ThreadId → List Record → List Record
+raisesBy Reads u step w t rs = rs
+raisesBy Raises u step w t rs = raisedRecord step w t (u .node .op) rs
+raisesBy (Forwards n) u step w t rs = rs
 
-abbrev pub raisedBy : Deed → ℕ → SnapshotId → List Record → List Record
-raisedBy Rests step w rs = rs
-raisedBy (Finds c) step w rs = rs
-raisedBy (Links n) step w rs = rs
-raisedBy (Marks n d) step w rs = rs
-raisedBy Unlinks step w rs = rs
-raisedBy (Updates d u) step w rs = raisesBy d u step w rs
-raisedBy (Sizes d) step w rs = rs
+abbrev pub raisedBy : Deed → ℕ → SnapshotId → ThreadId → List Record → List Record
+raisedBy Rests step w t rs = rs
+raisedBy (Finds c) step w t rs = rs
+raisedBy (Links n) step w t rs = rs
+raisedBy (Marks n d) step w t rs = rs
+raisedBy Unlinks step w t rs = rs
+raisedBy (Updates d u) step w t rs = raisesBy d u step w t rs
+raisedBy (Sizes d) step w t rs = rs
 
 -- the code's number of that operation, 255 where none is raised
 abbrev pub raisesOp : UpdateDeed → Update → OpId
@@ -257,7 +257,7 @@ takenBy v x heard t m =
       traces = tracesBy x heard step (l .seen) (m .traces);
       slots = set (m .slots) (ownIn m t .asked .key) (record { content = heldBy (v .deed) (heldIn m t) });
       locals = set (m .locals) (t .0) (stoodBy (v .deed) (v .next) l);
-      records = raisedBy (v .deed) step (windowNow m) (set (m .records) (l .op .0) (recordedBy step (v .deed) (v .next) (ownIn m t)));
+      records = raisedBy (v .deed) step (windowNow m) t (set (m .records) (l .op .0) (recordedBy step (v .deed) (v .next) (ownIn m t)));
     }
 
 abbrev pub moveIn : Rest → ThreadId → ℕ → Move

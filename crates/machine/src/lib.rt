@@ -162,7 +162,7 @@ fn taken(m: Rest, t: ThreadId, heard: u32) -> Rest
     let w = window_in(current, m.traces[g]);
     n.records[e] = own_or_same(v, o, m.records[e]);
     let f = record_at(v.raised);
-    n.records[f] = raised_or_same(v, step, w, n.records[f]);
+    n.records[f] = raised_or_same(v, step, w, t, n.records[f]);
     n.slots[q] = slot_or_same(v, a.key, m.slots[q]);
     n.traces[y] = trace_after(x, heard, step, seen, m.traces[y]);
     n.current = current_by(x, current);
@@ -232,7 +232,7 @@ pub fn play(machine: Machine, schedule: &[u8]) -> Machine
                 let g = snapshot_at(current);
                 let w = window_in(current, m.traces[g]);
                 let f = record_at(v.raised);
-                m.records[f] = raised_or_same(v, step, w, m.records[f]);
+                m.records[f] = raised_or_same(v, step, w, t, m.records[f]);
                 m.slots[q] = slot_or_same(v, a.key, m.slots[q]);
                 m.traces[y] = trace_after(x, heard, step, seen, m.traces[y]);
                 m.current = current_by(x, current);

@@ -18,6 +18,7 @@ use figures::UpdateDeed;
 use terms::OpId;
 use terms::SnapshotId;
 use terms::Target;
+use terms::ThreadId;
 ghost use mathlib.Core.Path.{_≡_};
 ghost use mathlib.Core.Bool.{cond};
 ghost use lib.Dec.{eqb};
@@ -42,6 +43,7 @@ fn counted(r: Record, step: u32) -> Record
         first: begun(x.first, step),
         last: x.last,
         own: one_more(x.own),
+        raiser: x.raiser,
     };
     s.outcome = y;
     s
@@ -57,6 +59,7 @@ fn answered(r: Record, a: u32, step: u32) -> Record
         first: x.first,
         last: step,
         own: x.own,
+        raiser: x.raiser,
     };
     s.outcome = y;
     s
@@ -85,14 +88,18 @@ fn exchanged_at(r: Record, c: Target, step: u32) -> Record
     s
 }
 
-pub fn raised_at(r: Record, step: u32, w: SnapshotId) -> Record
-    ensures { λ s. ⌜ s ≡ raisedAt step w r ⌝ }
+// Its counter came to its target, by a step of thread t.
+pub fn raised_at(r: Record, step: u32, w: SnapshotId, t: ThreadId) -> Record
+    ensures { λ s. ⌜ s ≡ raisedAt step w t r ⌝ }
 {
     let mut s = r;
     let mut x = r.change;
     x.raised = step;
     x.window = w;
     s.change = x;
+    let mut y = r.outcome;
+    y.raiser = t.0 as u32;
+    s.outcome = y;
     s
 }
 

@@ -109,6 +109,7 @@ pub fn no_record() -> Record
             first: 0,
             last: 0,
             own: 0,
+            raiser: 0,
         },
         look: Look {
             read: 0,
@@ -138,12 +139,12 @@ pub fn own_or_same(v: Turn, o: OpId, same: Record) -> Record
     if o.0 < OPERATIONS { own } else { same }
 }
 
-// The record of the operation that is raised, if there is such.
-pub fn raised_or_same(v: Turn, step: u32, w: SnapshotId, same: Record) -> Record
-    ensures { λ s. ⌜ s ≡ cond (ltb (v .raised .0) mostOperations) (raisedAt step w same) same ⌝ }
+// The record of the operation that thread t raises, if there is such.
+pub fn raised_or_same(v: Turn, step: u32, w: SnapshotId, t: ThreadId, same: Record) -> Record
+    ensures { λ s. ⌜ s ≡ cond (ltb (v .raised .0) mostOperations) (raisedAt step w t same) same ⌝ }
 {
     if v.raised.0 < OPERATIONS {
-        raised_at(same, step, w)
+        raised_at(same, step, w, t)
     } else {
         same
     }

@@ -69,6 +69,7 @@ pub fn no_record() -> Record
         first: 0,
         last: 0,
         own: 0,
+        raiser: 0,
     };
     let look = Look {
         read: 0,

@@ -1,4 +1,4 @@
--- What a turn does to the results: four numbers more.
+-- What a turn does to the results: five numbers more.
 use Prim.Native.Nat.{ℕ, suc, _+_, _*_, _≤_, _<_}
 use mathlib.Core.Path.{_≡_, refl, sym, ap, _∙_}
 use mathlib.Core.List.{List, [], _∷_}
@@ -12,7 +12,10 @@ use Rattle.figures.specs.Step.{noRecord}
 use Rattle.play.specs.Run.{perOperation, foursOf}
 
 abbrev pub stored : List ℕ → ℕ → Outcome → List ℕ
-stored l at w = set (set (set (set l at (w .answer)) (at + 1) (w .first)) (at + 2) (w .last)) (at + 3) (w .own)
+stored l at w = set (set (set (set (set l at (w .answer)) (at + 1) (w .first)) (at + 2) (w .last)) (at + 3) (w .own)) (at + 4) (w .raiser)
+
+add-four : (n : ℕ) → n + 4 ≡ suc (suc (suc (suc n)))
+add-four n = omega arith
 
 pub fours-on : (rs : List Record) (l : List ℕ) {n i : ℕ} → i < n → n ≤ length rs
     → sets l (perOperation * i) (foursOf (drop i (take n rs)))
@@ -20,8 +23,8 @@ pub fours-on : (rs : List Record) (l : List ℕ) {n i : ℕ} → i < n → n ≤
 unfolding foursOf
 fours-on rs l {n} {i} h k =
     let e : i < length (take n rs) = simp length-take (omega arith) in
-    let four : perOperation * (i + 1) ≡ suc (suc (suc (suc (perOperation * i)))) = omega arith in
-    rw (four, add-one (perOperation * i), add-two (perOperation * i), add-three (perOperation * i), add-one i, drop-cons (take n rs) i noRecord e, getD-take n rs i noRecord h)
+    let five : perOperation * (i + 1) ≡ suc (suc (suc (suc (suc (perOperation * i))))) = omega arith in
+    rw (five, add-one (perOperation * i), add-two (perOperation * i), add-three (perOperation * i), add-four (perOperation * i), add-one i, drop-cons (take n rs) i noRecord e, getD-take n rs i noRecord h)
 
 pub fours-end : (rs : List Record) (l : List ℕ) {n i : ℕ} → i ≡ n → n ≤ length rs → sets l (perOperation * i) (foursOf (drop i (take n rs))) ≡ l
 unfolding foursOf

@@ -33,12 +33,12 @@ countOf f = readOf f .operations
 
 -- numbers per operation: answer, first step, last step, own steps
 abbrev pub perOperation : ℕ
-perOperation = 4
+perOperation = 5
 
 unfoldable pub foursOf : List Record → List ℕ
 foursOf [] = []
 foursOf (r ∷ rs) =
-    r .outcome .answer ∷ r .outcome .first ∷ r .outcome .last ∷ r .outcome .own ∷ foursOf rs
+    r .outcome .answer ∷ r .outcome .first ∷ r .outcome .last ∷ r .outcome .own ∷ r .outcome .raiser ∷ foursOf rs
 
 abbrev pub resultsOf : List ℕ → List ℕ
 resultsOf f = foursOf (take (countOf f) (machineOf f .records))

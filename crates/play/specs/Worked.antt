@@ -26,7 +26,7 @@ pub record Handed : Type 0 where
   pub results : List ℕ
   pub log : List ℕ
 
--- idle steps, snapshots announced, log entries; four numbers per operation; two per log entry
+-- idle steps, snapshots announced, log entries; five numbers per operation; two per log entry
 abbrev pub handed : ℕ → ℕ → ℕ → List ℕ → List ℕ → Handed
 handed idle snapshots entries results log =
     record {
@@ -52,56 +52,56 @@ abbrev pub caseA : Row
 caseA =
     record {
       file = 0x02 ∷ 0x02 ∷ 0x0E ∷ 0x00 ∷ 0x01 ∷ 0x00 ∷ 0x0F ∷ 0x00 ∷ 0x02 ∷ 0x00 ∷ 0x11 ∷ 0x00 ∷ 0x1D ∷ 0x00 ∷ 0x01 ∷ 0x81 ∷ 0xC0 ∷ replicate 3 0x00 ++ replicate 26 0x01;
-      back = handed 0 1 3 (invalid ∷ 1 ∷ 0 ∷ 3 ∷ 1 ∷ 4 ∷ 8 ∷ 5 ∷ 1 ∷ 9 ∷ 29 ∷ 21 ∷ []) (0 ∷ 6 ∷ 1 ∷ 6 ∷ 2 ∷ 24 ∷ []);
+      back = handed 0 1 3 (invalid ∷ 1 ∷ 0 ∷ 3 ∷ 1 ∷ 1 ∷ 4 ∷ 8 ∷ 5 ∷ invalid ∷ 1 ∷ 9 ∷ 29 ∷ 21 ∷ invalid ∷ []) (0 ∷ 6 ∷ 1 ∷ 6 ∷ 2 ∷ 24 ∷ []);
     }
 
 abbrev pub caseB : Row
 caseB =
     record {
       file = fileOf 2 1 (1 ∷ 1 ∷ []) (192 ∷ 0 ∷ []) (steps (stretch 0 15 ∷ stretch 1 5 ∷ stretch 0 6 ∷ stretch 1 2 ∷ []));
-      back = handed 0 1 2 (0 ∷ 1 ∷ 26 ∷ 21 ∷ 1 ∷ 16 ∷ 28 ∷ 7 ∷ []) (0 ∷ 21 ∷ 1 ∷ 21 ∷ []);
+      back = handed 0 1 2 (0 ∷ 1 ∷ 26 ∷ 21 ∷ invalid ∷ 1 ∷ 16 ∷ 28 ∷ 7 ∷ 1 ∷ []) (0 ∷ 21 ∷ 1 ∷ 21 ∷ []);
     }
 
 abbrev pub caseC : Row
 caseC =
     record {
       file = fileOf 2 1 (1 ∷ 1 ∷ []) (192 ∷ 0 ∷ []) (steps (stretch 0 15 ∷ stretch 1 5 ∷ stretch 0 5 ∷ []));
-      back = handed 0 1 1 (invalid ∷ 1 ∷ 0 ∷ 20 ∷ invalid ∷ 16 ∷ 0 ∷ 5 ∷ []) (1 ∷ 20 ∷ []);
+      back = handed 0 1 1 (invalid ∷ 1 ∷ 0 ∷ 20 ∷ invalid ∷ invalid ∷ 16 ∷ 0 ∷ 5 ∷ 1 ∷ []) (1 ∷ 20 ∷ []);
     }
 
 abbrev pub caseD : Row
 caseD =
     record {
       file = fileOf 2 1 (1 ∷ 1 ∷ []) (192 ∷ 0 ∷ []) (steps (stretch 0 15 ∷ stretch 1 10 ∷ stretch 0 6 ∷ []));
-      back = handed 0 1 2 (1 ∷ 1 ∷ 31 ∷ 21 ∷ 1 ∷ 16 ∷ 25 ∷ 10 ∷ []) (1 ∷ 20 ∷ 0 ∷ 26 ∷ []);
+      back = handed 0 1 2 (1 ∷ 1 ∷ 31 ∷ 21 ∷ invalid ∷ 1 ∷ 16 ∷ 25 ∷ 10 ∷ 1 ∷ []) (1 ∷ 20 ∷ 0 ∷ 26 ∷ []);
     }
 
 abbrev pub caseE : Row
 caseE =
     record {
       file = fileOf 3 1 (1 ∷ 1 ∷ 1 ∷ []) (0 ∷ 64 ∷ 192 ∷ []) (steps (stretch 0 3 ∷ stretch 1 12 ∷ stretch 2 29 ∷ []));
-      back = handed 0 1 3 (invalid ∷ 1 ∷ 0 ∷ 3 ∷ 1 ∷ 4 ∷ 15 ∷ 12 ∷ 0 ∷ 16 ∷ 44 ∷ 29 ∷ []) (0 ∷ 6 ∷ 1 ∷ 12 ∷ 2 ∷ 37 ∷ []);
+      back = handed 0 1 3 (invalid ∷ 1 ∷ 0 ∷ 3 ∷ 1 ∷ 1 ∷ 4 ∷ 15 ∷ 12 ∷ 1 ∷ 0 ∷ 16 ∷ 44 ∷ 29 ∷ invalid ∷ []) (0 ∷ 6 ∷ 1 ∷ 12 ∷ 2 ∷ 37 ∷ []);
     }
 
 abbrev pub caseF : Row
 caseF =
     record {
       file = fileOf 2 1 (1 ∷ 1 ∷ []) (192 ∷ 192 ∷ []) (steps (stretch 0 3 ∷ stretch 1 20 ∷ stretch 0 14 ∷ []));
-      back = handed 0 1 2 (0 ∷ 1 ∷ 37 ∷ 17 ∷ 0 ∷ 4 ∷ 23 ∷ 20 ∷ []) (0 ∷ 18 ∷ 1 ∷ 18 ∷ []);
+      back = handed 0 1 2 (0 ∷ 1 ∷ 37 ∷ 17 ∷ invalid ∷ 0 ∷ 4 ∷ 23 ∷ 20 ∷ invalid ∷ []) (0 ∷ 18 ∷ 1 ∷ 18 ∷ []);
     }
 
 abbrev pub caseG : Row
 caseG =
     record {
       file = fileOf 1 1 (2 ∷ []) (0 ∷ 0 ∷ []) (steps (stretch 0 11 ∷ []));
-      back = handed 0 0 2 (1 ∷ 1 ∷ 7 ∷ 7 ∷ 0 ∷ 8 ∷ 11 ∷ 4 ∷ []) (0 ∷ 5 ∷ 1 ∷ 8 ∷ []);
+      back = handed 0 0 2 (1 ∷ 1 ∷ 7 ∷ 7 ∷ 0 ∷ 0 ∷ 8 ∷ 11 ∷ 4 ∷ invalid ∷ []) (0 ∷ 5 ∷ 1 ∷ 8 ∷ []);
     }
 
 abbrev pub caseH : Row
 caseH =
     record {
       file = fileOf 2 1 (1 ∷ 1 ∷ []) (0 ∷ 0 ∷ []) (steps (stretch 0 1 ∷ stretch 1 1 ∷ stretch 0 1 ∷ stretch 1 1 ∷ stretch 0 1 ∷ stretch 1 6 ∷ stretch 0 3 ∷ []));
-      back = handed 0 0 2 (1 ∷ 1 ∷ 14 ∷ 6 ∷ 0 ∷ 2 ∷ 11 ∷ 8 ∷ []) (0 ∷ 9 ∷ 1 ∷ 9 ∷ []);
+      back = handed 0 0 2 (1 ∷ 1 ∷ 14 ∷ 6 ∷ 1 ∷ 0 ∷ 2 ∷ 11 ∷ 8 ∷ invalid ∷ []) (0 ∷ 9 ∷ 1 ∷ 9 ∷ []);
     }
 
 abbrev pub caseI : Row

@@ -22,8 +22,8 @@ ghost use Rattle.play.specs.Run.{machineOf, perOperation, foursOf, resul
 ghost use Rattle.play.specs.Run.{lacks, lackNumber, handedTold, numberOf, refused, toldOf, when};
 ghost use Rattle.play.specs.Meets.{Meets};
 
-// Numbers per operation: answer, first step, last step, own steps.
-pub const PER_OPERATION: usize = 4;
+// Numbers per operation: answer, first step, last step, own steps, and who raised it.
+pub const PER_OPERATION: usize = 5;
 
 // Number 0 where the run was played: log entries, idle steps, snapshots announced. Else the refusal's number and place, and
 // every other number 0.
@@ -61,6 +61,7 @@ fn write_results(records: [Record; Machine::OPERATIONS], operations: usize, resu
         results[at + 1] = w.first;
         results[at + 2] = w.last;
         results[at + 3] = w.own;
+        results[at + 4] = w.raiser;
         i = i + 1;
     }
 }

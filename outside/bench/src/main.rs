@@ -7,7 +7,8 @@ mod stack;
 use compare::generate::{laid_out, run_of, MIXES};
 use compare::random::Random;
 use compare::side::{Ours, Plain, Side};
-use pszenorad::{Cells, Snapshot};
+use plain::file::{OPERATIONS, STEPS};
+use pszenorad::{Cells, Snapshot, PER_ENTRY, PER_OPERATION};
 use std::hint::black_box;
 use std::process::ExitCode;
 
@@ -34,8 +35,14 @@ fn asked() -> Result<Asked, String> {
 
 /// The largest buffers that a run can need.
 struct Buffers {
-    results: [u32; 256],
-    log: [u32; 128],
+    results: [u32; OPERATIONS * PER_OPERATION],
+    log: [u32; OPERATIONS * PER_ENTRY],
+}
+
+impl Buffers {
+    fn new() -> Buffers {
+        Buffers { results: [0; OPERATIONS * PER_OPERATION], log: [0; OPERATIONS * PER_ENTRY] }
+    }
 }
 
 /// Nanoseconds of processor time for one call on the file, of so many measured together.
@@ -58,7 +65,7 @@ fn median(mut times: Vec<f64>) -> f64 {
 
 /// The medians of measurements in turn over the files, ours and the plain implementation's.
 fn medians(asked: &Asked, files: &[Vec<u8>], calls: usize) -> (f64, f64) {
-    let mut buffers = Buffers { results: [0; 256], log: [0; 128] };
+    let mut buffers = Buffers::new();
     let (mut ours, mut plain) = (Vec::new(), Vec::new());
     for round in 0..asked.rounds + 10 {
         let file = &files[round % files.len()];
@@ -80,7 +87,7 @@ fn print_row(name: &str, note: &str, (ours, plain): (f64, f64)) {
 /// Files of 8 threads with 8 operations each, and 4,096 steps.
 fn largest(mix: [usize; 4], keys: usize) -> Vec<Vec<u8>> {
     let file = |i| {
-        let mut lists = run_of(&mut Random::new(7, i), 8, keys, 64, mix, 4096);
+        let mut lists = run_of(&mut Random::new(7, i), 8, keys, OPERATIONS, mix, STEPS);
         lists.counts = vec![8; 8];
         laid_out(&lists)
     };
@@ -89,9 +96,9 @@ fn largest(mix: [usize; 4], keys: usize) -> Vec<Vec<u8>> {
 
 /// How many of a file's steps are not idle.
 fn busy(file: &[u8]) -> usize {
-    let (mut results, mut log) = ([0; 256], [0; 128]);
+    let mut buffers = Buffers::new();
     let steps = plain::read(file).map_or(0, |c| c.steps);
-    plain::run(file, &mut results, &mut log).map_or(0, |t| steps - t.idle)
+    plain::run(file, &mut buffers.results, &mut buffers.log).map_or(0, |t| steps - t.idle)
 }
 
 const NAMES: [&str; 6] = ["even", "updates", "inserts and deletes alone", "updates and sizes", "contains", "sizes alone"];
@@ -120,12 +127,12 @@ fn lent_and_not(file: &[u8], buffers: &mut Buffers, table: &mut [Snapshot]) -> (
 fn lent_runs(asked: &Asked) {
     println!("{:<38}{:>12}{:>12}{:>8}", "nanoseconds a step, ours", "lent", "by value", "ratio");
     let none = Snapshot { cells: [Cells { insertions: 0, deletions: 0 }; 8], collecting: false, size: 0 };
-    let (mut table, mut buffers) = ([none; 65], Buffers { results: [0; 256], log: [0; 128] });
+    let (mut table, mut buffers) = ([none; OPERATIONS + 1], Buffers::new());
     for (name, mix) in NAMES.iter().zip(MIXES) {
         let files = largest(mix, 16);
         let pairs = (0..asked.rounds).map(|round| lent_and_not(&files[round % files.len()], &mut buffers, &mut table));
         let (lent, not): (Vec<f64>, Vec<f64>) = pairs.unzip();
-        let (lent, not) = (median(lent) / 4096.0, median(not) / 4096.0);
+        let (lent, not) = (median(lent) / STEPS as f64, median(not) / STEPS as f64);
         println!("{:<38}{lent:>12.2}{not:>12.2}{:>8.2}", format!("lent: {name}, keys 16"), lent / not);
     }
 }

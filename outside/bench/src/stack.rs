@@ -1,7 +1,8 @@
 //! How much stack a call touches: it is made on a thread whose stack is ours and painted first, and the count of a call that does
 //! nothing is taken off.
 
-use compare::side::Side;
+use compare::side::{Side, PER_ENTRY, PER_OPERATION};
+use plain::file::OPERATIONS;
 use std::ffi::{c_int, c_void};
 
 const SIZE: usize = 4 * 1024 * 1024;
@@ -56,7 +57,7 @@ fn used(job: &mut Job) -> usize {
 
 /// Bytes of stack that the run of a file touches.
 pub fn touched(side: &dyn Side, file: &[u8]) -> usize {
-    let job = |side| Job { side, file, results: vec![0; 256], log: vec![0; 128] };
+    let job = |side| Job { side, file, results: vec![0; OPERATIONS * PER_OPERATION], log: vec![0; OPERATIONS * PER_ENTRY] };
     let empty = used(&mut job(None));
     used(&mut job(Some(side))).saturating_sub(empty)
 }

@@ -2,9 +2,9 @@
 
 use crate::generate::{laid_out, Case};
 use crate::random::Random;
-use crate::side::{Lists, Playing, Reading, Side};
+use crate::side::{Lists, Playing, Reading, Side, PER_ENTRY, PER_OPERATION};
 use plain::demand::{self, Handed};
-use plain::Snapshot;
+use plain::{raisers, Snapshot};
 use std::fmt::Debug;
 
 /// What was met, for the count at the end.
@@ -66,8 +66,21 @@ fn room(random: &mut Random, needed: usize) -> usize {
     }
 }
 
+/// Room for so many numbers per operation; or one number too few for each.
+fn room_per_operation(random: &mut Random, operations: usize, numbers: usize) -> usize {
+    if random.once_in(16) {
+        return (numbers - 1) * operations;
+    }
+    room(random, numbers * operations)
+}
+
+/// Room for results and log.
+fn rooms(random: &mut Random, operations: usize) -> (usize, usize) {
+    (room_per_operation(random, operations, PER_OPERATION), room_per_operation(random, operations, PER_ENTRY))
+}
+
 fn compare_run(ours: &dyn Side, plain: &dyn Side, file: &[u8], read: &Reading, random: &mut Random) -> Verdict<Playing> {
-    let (nr, nl) = (room(random, 4 * read.operations), room(random, 2 * read.operations));
+    let (nr, nl) = rooms(random, read.operations);
     let (mut results, mut log) = (patterned(nr), patterned(nl));
     let answer = ours.run(file, &mut results, &mut log);
     let (mut plain_results, mut plain_log) = (patterned(nr), patterned(nl));
@@ -78,16 +91,19 @@ fn compare_run(ours: &dyn Side, plain: &dyn Side, file: &[u8], read: &Reading, r
     Ok(answer)
 }
 
-/// The tails, and demand 3 of what stands before them.
+/// The tails, and of what stands before them demand 3 and the raisers over the schedule.
 fn check_buffers(file: &[u8], read: &Reading, answer: &Playing, results: &[u32], log: &[u32]) -> Verdict<()> {
-    let (filled, logged) = if answer.number == 0 { (4 * read.operations, 2 * answer.entries) } else { (0, 0) };
+    let ran = answer.number == 0;
+    let (filled, logged) = if ran { (PER_OPERATION * read.operations, PER_ENTRY * answer.entries) } else { (0, 0) };
     untouched("results", results, filled)?;
     untouched("log", log, logged)?;
-    if answer.number != 0 {
+    if !ran {
         return Ok(());
     }
     let contents = plain::read(file).map_err(|r| format!("played what the plain reader refuses: {r:?}"))?;
-    demand::check(file, &contents, Handed { results: &results[..filled], log: &log[..logged], idle: answer.idle })
+    let (results, log) = (&results[..filled], &log[..logged]);
+    raisers::check(file, &contents, results)?;
+    demand::check(file, &contents, Handed { results, log, idle: answer.idle })
 }
 
 fn record(i: usize) -> Snapshot {
@@ -102,7 +118,8 @@ fn record(i: usize) -> Snapshot {
 fn compare_lent(ours: &dyn Side, plain: &dyn Side, file: &[u8], read: &Reading, random: &mut Random) -> Verdict<Option<Playing>> {
     let sizes = file[read.operations_at..read.schedule_at].iter().filter(|b| **b == 192).count();
     let records = room(random, sizes + 1);
-    let (nr, nl) = (4 * read.operations + random.below(2), 2 * read.operations + random.below(2));
+    let enough = (PER_OPERATION * read.operations + random.below(2), PER_ENTRY * read.operations + random.below(2));
+    let (nr, nl) = if random.once_in(4) { rooms(random, read.operations) } else { enough };
     let (mut results, mut log) = (patterned(nr), patterned(nl));
     let mut table: Vec<Snapshot> = (0..records).map(record).collect();
     let Some(answer) = ours.run_lent(file, &mut results, &mut log, &mut table) else {

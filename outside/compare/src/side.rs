@@ -2,6 +2,10 @@
 
 use plain::{Refusal, Snapshot};
 
+/// Numbers per operation and per entry: the same on both sides.
+pub use plain::{PER_ENTRY, PER_OPERATION};
+const _: () = assert!(PER_OPERATION == pszenorad::PER_OPERATION && PER_ENTRY == pszenorad::PER_ENTRY);
+
 #[derive(Debug, Clone, Copy, PartialEq, Eq, Default)]
 pub struct Reading {
     pub number: u32,

@@ -2,8 +2,10 @@
 
 use compare::differ;
 use compare::generate;
-use compare::side::{Lists, Plain, Playing, Reading, Side, Writing};
-use plain::Snapshot;
+use compare::side::{Lists, Plain, Playing, Reading, Side, Writing, PER_ENTRY, PER_OPERATION};
+use plain::demand::{self, Handed};
+use plain::machine::{Machine, Operation};
+use plain::{raisers, Outcome, Snapshot};
 
 #[derive(Clone, Copy, Debug, PartialEq)]
 enum Fault {
@@ -23,22 +25,80 @@ enum Fault {
     Snapshots,
     TableTail,
     TableCell,
+    /// the raiser told as the update's own thread, whoever it was
+    RaiserOwn,
+    /// told as a thread whose exchange of the counter failed
+    RaiserFailed,
+    /// told as a thread that forwarded
+    RaiserForwarded,
+    /// told of an update that is not raised yet
+    RaiserEarly,
+    LentRaiserOwn,
+    /// a buffer with room for one number less per operation is accepted
+    RoomForOneLess,
+    LentRoomForOneLess,
+}
+
+/// Changes what the results tell of their first operation.
+fn change_first(results: &mut [u32], change: impl Fn(Outcome) -> Outcome) {
+    if let Some(numbers) = results.first_chunk_mut() {
+        *numbers = change(Outcome::of_numbers(*numbers)).numbers();
+    }
+}
+
+/// Whom a fault tells as the raiser of an operation, if it tells something of its own.
+fn mistaken(fault: Fault, machine: &Machine, operation: &Operation) -> Option<usize> {
+    let update = machine.update(operation.update?);
+    match fault {
+        Fault::RaiserOwn | Fault::LentRaiserOwn => update.raised.map(|_| operation.thread),
+        Fault::RaiserFailed => update.failed,
+        Fault::RaiserForwarded => update.forwarded,
+        Fault::RaiserEarly if update.raised.is_none() => Some(operation.thread),
+        _ => None,
+    }
+}
+
+/// The results of an accepted file, with the mistaken raisers put in.
+fn mistake_raisers(fault: Fault, file: &[u8], results: &mut [u32]) {
+    let contents = plain::read(file).expect("a file that was played");
+    let machine = Machine::after(file, &contents);
+    for (numbers, operation) in results.as_chunks_mut().0.iter_mut().zip(machine.operations()) {
+        if let Some(thread) = mistaken(fault, &machine, operation) {
+            *numbers = Outcome { raiser: Some(thread as u32), ..machine.outcome(operation) }.numbers();
+        }
+    }
+}
+
+/// Runs with room for all numbers where there is room for all but one per operation, and hands back what there is room for.
+fn with_room(file: &[u8], results: &mut [u32], run: impl FnOnce(&mut [u32]) -> Playing) -> Playing {
+    let operations = Plain.read(file).operations;
+    if results.len() < (PER_OPERATION - 1) * operations {
+        return run(results);
+    }
+    let mut enough = results.to_vec();
+    enough.resize(results.len().max(PER_OPERATION * operations), 0);
+    let answer = run(&mut enough);
+    results.copy_from_slice(&enough[..results.len()]);
+    answer
 }
 
 struct Faulty(Fault);
 
 impl Faulty {
-    fn spoil(&self, answer: &mut Playing, results: &mut [u32], log: &mut [u32]) {
+    fn spoil(&self, file: &[u8], answer: &mut Playing, results: &mut [u32], log: &mut [u32]) {
         let ran = answer.number == 0;
         match self.0 {
-            Fault::Answer if ran && results.len() > 3 => results[0] ^= 1,
-            Fault::Own if ran && results.len() > 3 => results[3] += 1,
-            Fault::LogSwapped if ran && answer.entries > 1 && log[0] != log[2] => log.swap(0, 2),
+            Fault::Answer if ran => change_first(results, |o| Outcome { answer: o.answer.map(|a| a ^ 1), ..o }),
+            Fault::Own if ran => change_first(results, |o| Outcome { own: o.own + 1, ..o }),
+            Fault::LogSwapped if ran && answer.entries > 1 && log[0] != log[PER_ENTRY] => log.swap(0, PER_ENTRY),
             Fault::ResultsTail if ran => drop(results.last_mut().map(|x| *x = x.wrapping_add(1))),
-            Fault::LogTail if ran => drop(log.get_mut(2 * answer.entries).map(|x| *x = 0)),
+            Fault::LogTail if ran => drop(log.get_mut(PER_ENTRY * answer.entries).map(|x| *x = 0)),
             Fault::RefusedTouches if !ran => drop(results.first_mut().map(|x| *x = 0)),
             Fault::Idle if ran => answer.idle += 1,
             Fault::Snapshots if ran => answer.snapshots += 1,
+            Fault::RaiserOwn | Fault::RaiserFailed | Fault::RaiserForwarded | Fault::RaiserEarly if ran => {
+                mistake_raisers(self.0, file, results)
+            }
             _ => (),
         }
     }
@@ -67,14 +127,21 @@ impl Side for Faulty {
     }
 
     fn run(&self, file: &[u8], results: &mut [u32], log: &mut [u32]) -> Playing {
+        if self.0 == Fault::RoomForOneLess {
+            return with_room(file, results, |results| Plain.run(file, results, log));
+        }
         let mut answer = Plain.run(file, results, log);
-        self.spoil(&mut answer, results, log);
+        self.spoil(file, &mut answer, results, log);
         answer
     }
 
     fn run_lent(&self, file: &[u8], results: &mut [u32], log: &mut [u32], table: &mut [Snapshot]) -> Option<Playing> {
+        if self.0 == Fault::LentRoomForOneLess {
+            return Some(with_room(file, results, |results| Plain.run_lent(file, results, log, table).expect("a table is lent")));
+        }
         let answer = Plain.run_lent(file, results, log, table)?;
         match self.0 {
+            Fault::LentRaiserOwn if answer.number == 0 => mistake_raisers(self.0, file, results),
             Fault::TableTail if answer.number == 0 => drop(table.get_mut(answer.snapshots + 1).map(|r| r.size = 0)),
             Fault::TableCell if answer.snapshots > 0 => table[1].cells[7][1] ^= 1,
             _ => (),
@@ -107,30 +174,65 @@ fn each_fault_is_seen() {
         Snapshots,
         TableTail,
         TableCell,
+        RaiserOwn,
+        RaiserFailed,
+        RaiserForwarded,
+        RaiserEarly,
+        LentRaiserOwn,
+        RoomForOneLess,
+        LentRoomForOneLess,
     ];
     for fault in faults {
         assert!(differs(fault), "{fault:?} was not seen");
     }
 }
 
-/// Demand 3 sees an answer that the plain set does not give, a step outside a span and an operation listed twice.
+/// Whether each of the two checks that need no results but those at hand, the raisers over the schedule and demand 3, sees a fault.
+fn seen_alone(fault: Fault) -> [bool; 2] {
+    let mut seen = [false; 2];
+    for file in (0..400).map(|n| generate::case(5, n).file) {
+        let Ok(contents) = plain::read(&file) else { continue };
+        let (mut results, mut log) = (vec![0; PER_OPERATION * contents.operations], vec![0; PER_ENTRY * contents.operations]);
+        let answer = Faulty(fault).run(&file, &mut results, &mut log);
+        let handed = Handed { results: &results, log: &log[..PER_ENTRY * answer.entries], idle: answer.idle };
+        seen[0] |= raisers::check(&file, &contents, &results).is_err();
+        seen[1] |= demand::check(&file, &contents, handed).is_err();
+    }
+    seen
+}
+
+#[test]
+fn mistaken_raisers_are_seen_alone() {
+    use Fault::*;
+    assert_eq!(seen_alone(None), [false, false]);
+    for fault in [RaiserOwn, RaiserFailed, RaiserForwarded, RaiserEarly] {
+        assert_eq!(seen_alone(fault), [true, true], "{fault:?}");
+    }
+}
+
+/// Demand 3 sees an answer that the plain set does not give, a step outside a span, an operation listed twice, and a raiser that is
+/// missing, is told of an insert that failed, or took no such step.
 #[test]
 fn demand_is_not_empty() {
     let file = [1, 1, 10, 0, 2, 0, 12, 0, 11, 0, 0, 0, 0, 0, 0, 0, 0, 0, 0, 0, 0, 0, 0];
     let contents = plain::read(&file).unwrap();
-    let (mut results, mut log) = ([0; 8], [0; 4]);
+    let (mut results, mut log) = ([0; 2 * PER_OPERATION], [0; 2 * PER_ENTRY]);
     plain::run(&file, &mut results, &mut log).unwrap();
-    let check =
-        |results: &[u32], log: &[u32]| plain::demand::check(&file, &contents, plain::demand::Handed { results, log, idle: 0 });
+    let check = |results: &[u32], log: &[u32]| demand::check(&file, &contents, Handed { results, log, idle: 0 });
     assert_eq!(check(&results, &log), Ok(()));
-    let changed = |i: usize, x: u32| {
-        let mut r = results;
-        r[i] = x;
-        r
+    let wrong = |operation: usize, change: fn(Outcome) -> Outcome| {
+        let mut changed = results;
+        change_first(&mut changed[PER_OPERATION * operation..], change);
+        check(&changed, &log).is_err()
     };
-    assert!(check(&changed(4, 1), &log).is_err());
-    assert!(check(&changed(1, 6), &log).is_err());
-    assert!(check(&changed(3, 9), &log).is_err());
-    assert!(check(&results, &[log[0], log[1], log[0], log[3]]).is_err());
-    assert!(check(&results, &log[..2]).is_err());
+    assert!(wrong(1, |o| Outcome { answer: Some(1), ..o }));
+    assert!(wrong(0, |o| Outcome { first: 6, ..o }));
+    assert!(wrong(0, |o| Outcome { own: 9, ..o }));
+    assert!(wrong(0, |o| Outcome { raiser: None, ..o }));
+    assert!(wrong(0, |o| Outcome { raiser: Some(1), ..o }));
+    assert!(wrong(1, |o| Outcome { raiser: Some(0), ..o }));
+    assert!(!wrong(0, |o| Outcome { raiser: Some(0), ..o }));
+    let first = &log[..PER_ENTRY];
+    assert!(check(&results, &[first, first].concat()).is_err());
+    assert!(check(&results, first).is_err());
 }

@@ -1,4 +1,4 @@
-//! The strings of the gate reach what seldom happens, in the machine and in the log.
+//! The strings of the gate reach what seldom happens, in the machine, in the log and in the raising of counters.
 
 use compare::generate;
 use plain::machine::{Kind, Machine, Rare};
@@ -21,10 +21,27 @@ fn in_log(machine: &Machine) -> [bool; 3] {
     met
 }
 
+/// Which of these a run has: an update raised by another thread than its own, one by its own after another had it in hand, one that another
+/// than its raiser forwarded, and one not raised yet.
+fn in_raisings(machine: &Machine) -> [bool; 4] {
+    let mut met = [false; 4];
+    for operation in machine.operations() {
+        let Some(note) = operation.update else { continue };
+        let update = machine.update(note);
+        let raiser = update.raised.map(|raising| raising.thread);
+        met[0] |= raiser.is_some_and(|thread| thread != operation.thread);
+        met[1] |= raiser == Some(operation.thread) && update.failed.is_some();
+        met[2] |= update.forwarded.is_some() && update.forwarded != raiser;
+        met[3] |= raiser.is_none();
+    }
+    met
+}
+
 #[test]
 fn rare_events() {
     let mut met = [0; Rare::COUNT];
     let mut logs = [0; 3];
+    let mut raisings = [0; 4];
     for number in 0..20_000 {
         let case = generate::case(1, number);
         if let Ok(contents) = plain::read(&case.file) {
@@ -32,8 +49,10 @@ fn rare_events() {
             (0..Rare::COUNT).for_each(|i| met[i] += machine.met()[i] as usize);
             let found = in_log(&machine);
             (0..3).for_each(|i| logs[i] += found[i] as usize);
+            let found = in_raisings(&machine);
+            (0..4).for_each(|i| raisings[i] += found[i] as usize);
         }
     }
-    println!("{met:?} {logs:?}");
-    assert!(met.iter().chain(&logs).all(|n| *n >= 5), "{met:?} {logs:?}");
+    println!("{met:?} {logs:?} {raisings:?}");
+    assert!(met.iter().chain(&logs).chain(&raisings).all(|n| *n >= 5), "{met:?} {logs:?} {raisings:?}");
 }

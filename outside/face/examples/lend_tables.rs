@@ -1,7 +1,7 @@
 //! Lends tables of snapshots of exact, larger and too small sizes, filled with a pattern, and prints what stands in them afterwards.
 //! `lend_tables FILE SIZES ..`: a run file and how many size operations it has, in turn.
 
-use pszenorad::{Cells, Snapshot, INVALID};
+use pszenorad::{Cells, Snapshot, INVALID, PER_ENTRY, PER_OPERATION};
 use std::process::ExitCode;
 
 /// What record i of a table is before it is lent.
@@ -28,7 +28,8 @@ fn print_record(i: usize, record: &Snapshot) {
 }
 
 fn lend(file: &[u8], records: usize) {
-    let (mut results, mut log) = ([7; 256], [7; 128]);
+    let operations = pszenorad::read(file).map_or(0, |contents| contents.operations);
+    let (mut results, mut log) = (vec![7; PER_OPERATION * operations], vec![7; PER_ENTRY * operations]);
     let mut table: Vec<Snapshot> = (0..records).map(pattern).collect();
     match pszenorad::run_lent(file, &mut results, &mut log, &mut table) {
         Ok(t) => println!(" {records} records: entries {} idle {} snapshots {}", t.entries, t.idle, t.snapshots),

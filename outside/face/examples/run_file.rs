@@ -27,7 +27,8 @@ fn main() -> ExitCode {
             let bytes = &file[contents.operations_at..contents.schedule_at];
             for (i, (byte, outcome)) in bytes.iter().zip(&played.outcomes).enumerate() {
                 let place = played.log.iter().position(|e| e.operation as usize == i);
-                println!("{i}: {} gave {:?}, {} steps, log place {place:?}", describe(*byte), outcome.answer, outcome.own);
+                print!("{i}: {} gave {:?}, {} steps, log place {place:?}", describe(*byte), outcome.answer, outcome.own);
+                println!("{}", outcome.raiser.map_or(String::new(), |thread| format!(", raised by thread {thread}")));
             }
             ExitCode::SUCCESS
         }

@@ -8,7 +8,9 @@
 //! let file = [1, 1, 10, 0, 2, 0, 12, 0, 11, 0, 0, 0, 0, 0, 0, 0, 0, 0, 0, 0, 0, 0, 0];
 //! let played = pszenorad::play(&file)?;
 //! assert_eq!(played.outcomes[0].answer, Some(1));
+//! assert_eq!(played.outcomes[0].raiser, Some(0));
 //! assert_eq!(played.outcomes[1].answer, Some(0));
+//! assert_eq!(played.outcomes[1].raiser, None);
 //! assert_eq!(played.log[1].step, 8);
 //! # Ok::<(), pszenorad::Refusal>(())
 //! ```
@@ -19,8 +21,14 @@ mod refusal;
 pub use boundary::{Cells, Snapshot};
 pub use refusal::{number, Refusal};
 
-/// In results: not returned. In a snapshot: no value yet.
+/// In results: not returned, or no raiser. In a snapshot: no value yet.
 pub const INVALID: u32 = u32::MAX;
+
+/// Numbers per operation in the results: answer, first step, last step, own steps, raiser.
+pub const PER_OPERATION: usize = 5;
+
+/// Numbers per entry of the log: operation, step.
+pub const PER_ENTRY: usize = 2;
 
 /// What an accepted file holds and where it lies.
 #[derive(Debug, Clone, Copy, PartialEq, Eq)]
@@ -70,6 +78,15 @@ pub struct Outcome {
     /// 0 if it has not returned
     pub last: u32,
     pub own: u32,
+    /// the thread that raised the counter of this update, perhaps another than its own; none for anything but a raised update
+    pub raiser: Option<u8>,
+}
+
+impl Outcome {
+    fn of([answer, first, last, own, raiser]: [u32; PER_OPERATION]) -> Outcome {
+        // a raiser is a thread, below 8, or INVALID, which is no u8
+        Outcome { answer: (answer != INVALID).then_some(answer), first, last, own, raiser: u8::try_from(raiser).ok() }
+    }
 }
 
 /// An entry of the log.
@@ -77,6 +94,12 @@ pub struct Outcome {
 pub struct Entry {
     pub operation: u32,
     pub step: u32,
+}
+
+impl Entry {
+    fn of([operation, step]: [u32; PER_ENTRY]) -> Entry {
+        Entry { operation, step }
+    }
 }
 
 /// A whole run: an outcome for each operation of the file, and the log in order.
@@ -109,8 +132,8 @@ pub fn write(lists: Lists, out: &mut [u8]) -> Result<usize, Refusal> {
     Ok(a.length)
 }
 
-/// Plays a file. `results` takes four numbers per operation: answer, first step, last step, own steps; `log` takes two per entry:
-/// operation, step. They need room for 4 and 2 numbers per operation; what is not written stays.
+/// Plays a file. `results` takes `PER_OPERATION` numbers per operation, `log` takes `PER_ENTRY` per entry. Each needs room for that many
+/// times the file's operations; what is not written stays.
 pub fn run(file: &[u8], results: &mut [u32], log: &mut [u32]) -> Result<Totals, Refusal> {
     totals(boundary::run(file, results, log))
 }
@@ -129,12 +152,12 @@ fn totals(a: boundary::RunAnswer) -> Result<Totals, Refusal> {
 /// Plays a file into memory of its own.
 pub fn play(file: &[u8]) -> Result<Played, Refusal> {
     let operations = read(file)?.operations;
-    let (mut results, mut log) = (vec![0; 4 * operations], vec![0; 2 * operations]);
+    let (mut results, mut log) = (vec![0; PER_OPERATION * operations], vec![0; PER_ENTRY * operations]);
     let totals = run(file, &mut results, &mut log)?;
-    let outcome = |r: &[u32]| Outcome { answer: (r[0] != INVALID).then_some(r[0]), first: r[1], last: r[2], own: r[3] };
+    let entries = log.as_chunks().0.iter().take(totals.entries);
     Ok(Played {
-        outcomes: results.chunks_exact(4).map(outcome).collect(),
-        log: log.chunks_exact(2).take(totals.entries).map(|e| Entry { operation: e[0], step: e[1] }).collect(),
+        outcomes: results.as_chunks().0.iter().map(|numbers| Outcome::of(*numbers)).collect(),
+        log: entries.map(|numbers| Entry::of(*numbers)).collect(),
         totals,
     })
 }

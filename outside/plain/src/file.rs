@@ -38,8 +38,10 @@ impl Contents {
     }
 }
 
-const OPERATIONS: usize = 64;
-const STEPS: usize = 4096;
+/// The most operations of a run.
+pub const OPERATIONS: usize = 64;
+/// The most steps of a run.
+pub const STEPS: usize = 4096;
 
 fn refuse<A>(number: u32, place: usize) -> Result<A, Refusal> {
     Err(Refusal { number, place })

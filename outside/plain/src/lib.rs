@@ -1,6 +1,7 @@
-//! Document 01 a second time, in plain Rust and with no proof: the run file, the machine, the log, the listing, and demand 3 as a replay.
+//! Document 01, with the requests of document 02 that have landed, a second time, in plain Rust and with no proof: the run file, the
+//! machine, the log, the listing, demand 3 as a replay, and the raisers over the schedule.
 //!
-//! It is written from the document's words and shares nothing with the proved library. Where the two answer alike, a misreading would
+//! It is written from the documents' words and shares nothing with the proved library. Where the two answer alike, a misreading would
 //! have to be made twice.
 
 pub mod demand;
@@ -8,10 +9,13 @@ pub mod file;
 pub mod listing;
 pub mod log;
 pub mod machine;
+pub mod numbers;
+pub mod raisers;
 
 pub use file::{read, write, Contents, Refusal};
 pub use listing::listing;
 pub use machine::{Machine, Snapshot, INVALID};
+pub use numbers::{Entry, Outcome, PER_ENTRY, PER_OPERATION};
 
 /// What a run returns beside its buffers.
 #[derive(Debug, Clone, Copy, PartialEq, Eq, Default)]
@@ -21,7 +25,7 @@ pub struct Totals {
     pub snapshots: usize,
 }
 
-/// Plays a file: four numbers per operation into `results`, two per entry into `log`.
+/// Plays a file: `PER_OPERATION` numbers per operation into `results`, `PER_ENTRY` per entry into `log`.
 pub fn run(file: &[u8], results: &mut [u32], log: &mut [u32]) -> Result<Totals, Refusal> {
     let machine = played(file, results.len(), log.len(), None)?;
     Ok(hand_back(&machine, results, log))
@@ -40,7 +44,7 @@ pub fn run_lent(file: &[u8], results: &mut [u32], log: &mut [u32], table: &mut [
 fn played(file: &[u8], results: usize, log: usize, table: Option<usize>) -> Result<Machine, Refusal> {
     let contents = read(file)?;
     let sizes = contents.operation_bytes(file).iter().filter(|b| **b == 192).count();
-    let small = results < 4 * contents.operations || log < 2 * contents.operations;
+    let small = results < PER_OPERATION * contents.operations || log < PER_ENTRY * contents.operations;
     if small || table.is_some_and(|records| records < sizes + 1) {
         return Err(Refusal { number: 11, place: 0 });
     }
@@ -48,12 +52,12 @@ fn played(file: &[u8], results: usize, log: usize, table: Option<usize>) -> Resu
 }
 
 fn hand_back(machine: &Machine, results: &mut [u32], log: &mut [u32]) -> Totals {
-    for (room, o) in results.chunks_exact_mut(4).zip(machine.operations()) {
-        room.copy_from_slice(&[o.answer.unwrap_or(INVALID), o.first, o.last, o.own]);
+    for (room, operation) in results.as_chunks_mut().0.iter_mut().zip(machine.operations()) {
+        *room = machine.outcome(operation).numbers();
     }
     let entries = log::entries(machine);
-    for (room, entry) in log.chunks_exact_mut(2).zip(&entries) {
-        room.copy_from_slice(&[entry.operation as u32, entry.step]);
+    for (room, entry) in log.as_chunks_mut().0.iter_mut().zip(&entries) {
+        *room = entry.numbers();
     }
     Totals { entries: entries.len(), idle: machine.idle(), snapshots: machine.snapshots().len() - 1 }
 }

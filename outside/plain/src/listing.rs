@@ -1,7 +1,7 @@
 //! What `showrun` prints.
 
 use crate::file::{read, Contents, Refusal};
-use crate::machine::INVALID;
+use crate::numbers::{entries, outcomes, PER_ENTRY, PER_OPERATION};
 use crate::{run, Totals};
 use std::fmt::Write;
 
@@ -21,8 +21,8 @@ type Parts = (Contents, Vec<u32>, Vec<u32>, Totals);
 
 fn parts(file: &[u8]) -> Result<Parts, Refusal> {
     let contents = read(file)?;
-    let mut results = vec![0; 4 * contents.operations];
-    let mut log = vec![0; 2 * contents.operations];
+    let mut results = vec![0; PER_OPERATION * contents.operations];
+    let mut log = vec![0; PER_ENTRY * contents.operations];
     let totals = run(file, &mut results, &mut log)?;
     Ok((contents, results, log, totals))
 }
@@ -38,15 +38,15 @@ pub fn text(file: &[u8], c: &Contents, results: &[u32], log: &[u32], totals: Tot
         head.0, head.1, head.2, head.3
     );
     let starts = c.starts();
-    let numbers = results.chunks_exact(4);
-    for (i, (byte, r)) in c.operation_bytes(file).iter().zip(numbers).enumerate() {
+    for (i, (byte, o)) in c.operation_bytes(file).iter().zip(outcomes(results)).enumerate() {
         let thread = starts[1..].iter().take_while(|end| **end <= i).count();
-        let asked = asked(*byte);
-        let answer = answer(*byte, r[0]);
-        let _ = writeln!(out, "op {i} thread {thread} {asked} answer {answer} first {} last {} own {}", r[1], r[2], r[3]);
+        let (asked, answer) = (asked(*byte), answer(*byte, o.answer));
+        let raiser = o.raiser.map_or("-".to_string(), |thread| thread.to_string());
+        let _ = write!(out, "op {i} thread {thread} {asked} answer {answer}");
+        let _ = writeln!(out, " first {} last {} own {} raisedby {raiser}", o.first, o.last, o.own);
     }
-    for entry in log.chunks_exact(2).take(totals.entries) {
-        let _ = writeln!(out, "log {} at {}", entry[0], entry[1]);
+    for entry in entries(log).iter().take(totals.entries) {
+        let _ = writeln!(out, "log {} at {}", entry.operation, entry.step);
     }
     out
 }
@@ -60,11 +60,11 @@ fn asked(byte: u8) -> String {
     }
 }
 
-fn answer(byte: u8, number: u32) -> String {
-    match (byte / 64, number) {
-        (_, INVALID) => "unfinished".to_string(),
-        (3, size) => size.to_string(),
-        (_, 0) => "false".to_string(),
+fn answer(byte: u8, answer: Option<u32>) -> String {
+    match (byte / 64, answer) {
+        (_, None) => "unfinished".to_string(),
+        (3, Some(size)) => size.to_string(),
+        (_, Some(0)) => "false".to_string(),
         _ => "true".to_string(),
     }
 }

@@ -1,12 +1,7 @@
 //! Where each operation stands in the log.
 
 use crate::machine::{Machine, Note, Operation};
-
-#[derive(Debug, Clone, Copy, PartialEq, Eq)]
-pub struct Entry {
-    pub operation: usize,
-    pub step: u32,
-}
+use crate::numbers::Entry;
 
 /// A place in the log. Entries of one step: sizes by thread number, then updates by raising step, each with those directly after it by
 /// their reads.
@@ -47,7 +42,7 @@ fn place(machine: &Machine, o: &Operation) -> Option<Place> {
 
 /// At its raising, or behind the snapshot that was collecting then and whose winner did not see it.
 fn update_place(machine: &Machine, note: Note) -> Option<Place> {
-    let raised = machine.update(note).raised?;
+    let raised = machine.update(note).raised?.step;
     let missed_by = machine.stories().iter().find_map(|story| {
         let closed = story.closed?;
         let during = story.announced < raised && raised < closed;

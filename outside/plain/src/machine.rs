@@ -1,6 +1,8 @@
-//! The machine: memory, the threads, and one access a step. Beside the memory it keeps what the log needs to know of the past.
+//! The machine: memory, the threads, and one access a step. Beside the memory it keeps what results and log need to
+//! know of the past.
 
 use crate::file::Contents;
+use crate::numbers::Outcome;
 
 pub const INVALID: u32 = u32::MAX;
 pub const INSERTION: usize = 0;
@@ -38,11 +40,21 @@ pub struct Note {
     pub target: u32,
 }
 
+/// The step that brought an update's counter to its target, and the thread that took it.
+#[derive(Debug, Clone, Copy, PartialEq, Eq)]
+pub struct Raising {
+    pub step: u32,
+    pub thread: usize,
+}
+
 /// An update whose slot exchange succeeded; the one with target c stands at c - 1 in the list of its counter.
 #[derive(Debug, Clone, Copy)]
 pub struct Update {
     pub operation: usize,
-    pub raised: Option<u32>,
+    pub raised: Option<Raising>,
+    /// who may be mistaken for the raiser: the last thread whose exchange of the counter failed, and the last that forwarded
+    pub failed: Option<usize>,
+    pub forwarded: Option<usize>,
 }
 
 #[derive(Debug, Clone, Copy, PartialEq, Eq)]
@@ -214,6 +226,20 @@ impl Machine {
         self.updates[note.thread][note.kind][note.target as usize - 1]
     }
 
+    fn update_mut(&mut self, note: Note) -> &mut Update {
+        &mut self.updates[note.thread][note.kind][note.target as usize - 1]
+    }
+
+    /// None for anything but a raised update.
+    pub fn raising(&self, operation: &Operation) -> Option<Raising> {
+        self.update(operation.update?).raised
+    }
+
+    pub fn outcome(&self, o: &Operation) -> Outcome {
+        let raiser = self.raising(o).map(|raising| raising.thread as u32);
+        Outcome { answer: o.answer, first: o.first, last: o.last, own: o.own, raiser }
+    }
+
     pub fn idle(&self) -> usize {
         self.idle
     }
@@ -350,7 +376,7 @@ impl Machine {
 
     fn became_update(&mut self, o: usize, note: Note) {
         let list = &mut self.updates[note.thread][note.kind];
-        list.push(Update { operation: o, raised: None });
+        list.push(Update { operation: o, raised: None, failed: None, forwarded: None });
         assert_eq!(list.len(), note.target as usize, "targets of a counter follow one another");
         self.operations[o].update = Some(note);
     }
@@ -367,7 +393,7 @@ impl Machine {
             ReadCounter(note, then) if self.counter(note) == note.target - 1 => Next::At(Raise(note, then)),
             ReadCounter(note, then) => Next::At(ReadCurrent(note, then)),
             Raise(note, then) => {
-                self.raise(note);
+                self.raise(t, note);
                 Next::At(ReadCurrent(note, then))
             }
             ReadCurrent(note, then) => Next::At(ReadFlag(note, then, self.snapshots.len() - 1)),
@@ -384,6 +410,7 @@ impl Machine {
                 let witnessed = *cell;
                 if witnessed == known {
                     *cell = note.target;
+                    self.update_mut(note).forwarded = Some(t);
                     return then.next();
                 }
                 self.meet(if witnessed < note.target { Rare::ForwardFails } else { Rare::ForwardSatisfied });
@@ -393,12 +420,15 @@ impl Machine {
         }
     }
 
-    fn raise(&mut self, note: Note) {
+    fn raise(&mut self, t: usize, note: Note) {
+        let step = self.clock;
         let counter = &mut self.counters[note.thread][note.kind];
         if *counter == note.target - 1 {
             *counter = note.target;
-            self.updates[note.thread][note.kind][note.target as usize - 1].raised = Some(self.clock);
+            let before = self.update_mut(note).raised.replace(Raising { step, thread: t });
+            assert_eq!(before, None, "an update is raised once");
         } else {
+            self.update_mut(note).failed = Some(t);
             self.meet(Rare::RaiseFails);
         }
     }

@@ -1,6 +1,7 @@
-//! The runs that document 01 works by hand, and its boundaries.
+//! The runs that document 01 works by hand, each with its raisers, and its boundaries.
 
-use plain::{listing, read, run, write, Refusal, Totals, INVALID};
+use plain::numbers::{entries, outcomes};
+use plain::{listing, read, run, write, Outcome, Refusal, Totals, INVALID, PER_ENTRY, PER_OPERATION};
 
 /// A file from the threads' operation bytes and a schedule of (thread, repeats).
 fn file(keys: u8, operations: &[&[u8]], schedule: &[(u8, usize)]) -> Vec<u8> {
@@ -12,16 +13,33 @@ fn file(keys: u8, operations: &[&[u8]], schedule: &[(u8, usize)]) -> Vec<u8> {
     out
 }
 
-/// Answers, own steps, log as (operation, step), totals.
-type Played = (Vec<u32>, Vec<u32>, Vec<(u32, u32)>, Totals);
+struct Played {
+    outcomes: Vec<Outcome>,
+    /// as (operation, step)
+    log: Vec<(usize, u32)>,
+    totals: Totals,
+}
+
+impl Played {
+    fn answers(&self) -> Vec<Option<u32>> {
+        self.outcomes.iter().map(|o| o.answer).collect()
+    }
+
+    fn own(&self) -> Vec<u32> {
+        self.outcomes.iter().map(|o| o.own).collect()
+    }
+
+    fn raisers(&self) -> Vec<Option<u32>> {
+        self.outcomes.iter().map(|o| o.raiser).collect()
+    }
+}
 
 fn play(file: &[u8]) -> Played {
     let n = read(file).unwrap().operations;
-    let (mut results, mut log) = (vec![7; 4 * n], vec![7; 2 * n]);
+    let (mut results, mut log) = (vec![7; PER_OPERATION * n], vec![7; PER_ENTRY * n]);
     let totals = run(file, &mut results, &mut log).unwrap();
-    let column = |i: usize| results.chunks(4).map(|r| r[i]).collect();
-    let entries = log.chunks(2).take(totals.entries).map(|e| (e[0], e[1])).collect();
-    (column(0), column(3), entries, totals)
+    let log = entries(&log).iter().take(totals.entries).map(|e| (e.operation, e.step)).collect();
+    Played { outcomes: outcomes(&results), log, totals }
 }
 
 const INSERT: u8 = 0;
@@ -37,9 +55,9 @@ fn case_a_whole() {
     assert_eq!(
         listing(&a),
         "run threads 2 keys 2 operations 3 steps 29 idle 0 snapshots 1\n\
-         op 0 thread 0 insert 1 answer unfinished first 1 last 0 own 3\n\
-         op 1 thread 1 contains 1 answer true first 4 last 8 own 5\n\
-         op 2 thread 1 size - answer 1 first 9 last 29 own 21\n\
+         op 0 thread 0 insert 1 answer unfinished first 1 last 0 own 3 raisedby 1\n\
+         op 1 thread 1 contains 1 answer true first 4 last 8 own 5 raisedby -\n\
+         op 2 thread 1 size - answer 1 first 9 last 29 own 21 raisedby -\n\
          log 0 at 6\nlog 1 at 6\nlog 2 at 24\n"
     );
 }
@@ -47,27 +65,53 @@ fn case_a_whole() {
 #[test]
 fn cases_b_c_d() {
     let asked: [&[u8]; 2] = [&[SIZE], &[INSERT]];
-    let (answers, _, log, _) = play(&file(1, &asked, &[(0, 15), (1, 5), (0, 6), (1, 2)]));
-    assert_eq!((answers, log), (vec![0, 1], vec![(0, 21), (1, 21)]));
-    let (answers, _, log, _) = play(&file(1, &asked, &[(0, 15), (1, 5), (0, 5)]));
-    assert_eq!((answers, log), (vec![INVALID, INVALID], vec![(1, 20)]));
-    let (answers, _, log, _) = play(&file(1, &asked, &[(0, 15), (1, 10), (0, 6)]));
-    assert_eq!((answers[0], log), (1, vec![(1, 20), (0, 26)]));
+    let b = play(&file(1, &asked, &[(0, 15), (1, 5), (0, 6), (1, 2)]));
+    assert_eq!((b.answers(), &b.log[..]), (vec![Some(0), Some(1)], &[(0, 21), (1, 21)][..]));
+    let c = play(&file(1, &asked, &[(0, 15), (1, 5), (0, 5)]));
+    assert_eq!((c.answers(), &c.log[..]), (vec![None, None], &[(1, 20)][..]));
+    let d = play(&file(1, &asked, &[(0, 15), (1, 10), (0, 6)]));
+    assert_eq!((d.answers()[0], &d.log[..]), (Some(1), &[(1, 20), (0, 26)][..]));
+    for played in [b, c, d] {
+        assert_eq!(played.raisers(), [None, Some(1)]);
+    }
 }
 
 #[test]
 fn cases_e_to_i() {
-    let (answers, _, log, _) = play(&file(1, &[&[INSERT], &[DELETE], &[SIZE]], &[(0, 3), (1, 12), (2, 29)]));
-    assert_eq!((&answers[1..], log), (&[1, 0][..], vec![(0, 6), (1, 12), (2, 37)]));
-    let (answers, own, log, _) = play(&file(1, &[&[SIZE], &[SIZE]], &[(0, 3), (1, 20), (0, 14)]));
-    assert_eq!((answers, own, log), (vec![0, 0], vec![17, 20], vec![(0, 18), (1, 18)]));
-    let (answers, _, log, _) = play(&file(1, &[&[INSERT, INSERT]], &[(0, 11)]));
-    assert_eq!((answers, log), (vec![1, 0], vec![(0, 5), (1, 8)]));
+    let e = play(&file(1, &[&[INSERT], &[DELETE], &[SIZE]], &[(0, 3), (1, 12), (2, 29)]));
+    assert_eq!((&e.answers()[1..], &e.log[..]), (&[Some(1), Some(0)][..], &[(0, 6), (1, 12), (2, 37)][..]));
+    assert_eq!(e.raisers(), [Some(1), Some(1), None]);
+    let f = play(&file(1, &[&[SIZE], &[SIZE]], &[(0, 3), (1, 20), (0, 14)]));
+    assert_eq!((f.answers(), f.own(), &f.log[..]), (vec![Some(0), Some(0)], vec![17, 20], &[(0, 18), (1, 18)][..]));
+    assert_eq!(f.raisers(), [None, None]);
+    let g = play(&file(1, &[&[INSERT, INSERT]], &[(0, 11)]));
+    assert_eq!((g.answers(), &g.log[..]), (vec![Some(1), Some(0)], &[(0, 5), (1, 8)][..]));
+    assert_eq!(g.raisers(), [Some(0), None]);
     let h = [(0, 1), (1, 1), (0, 1), (1, 1), (0, 1), (1, 6), (0, 3)];
-    let (answers, _, log, _) = play(&file(1, &[&[INSERT], &[INSERT]], &h));
-    assert_eq!((answers, log), (vec![1, 0], vec![(0, 9), (1, 9)]));
-    let (_, _, log, totals) = play(&file(1, &[&[]], &[(0, 2)]));
-    assert_eq!((log.len(), totals), (0, Totals { entries: 0, idle: 2, snapshots: 0 }));
+    let h = play(&file(1, &[&[INSERT], &[INSERT]], &h));
+    assert_eq!((h.answers(), &h.log[..]), (vec![Some(1), Some(0)], &[(0, 9), (1, 9)][..]));
+    assert_eq!(h.raisers(), [Some(1), None]);
+    let i = play(&file(1, &[&[]], &[(0, 2)]));
+    assert_eq!((i.log.len(), i.totals), (0, Totals { entries: 0, idle: 2, snapshots: 0 }));
+}
+
+/// Thread 0 puts its node; nobody has raised its counter yet, and then nobody is told.
+#[test]
+fn not_raised_yet() {
+    let put = file(1, &[&[INSERT], &[CONTAINS]], &[(0, 4), (1, 2)]);
+    assert_eq!(play(&put).raisers(), [None, None]);
+}
+
+/// Both threads are about to raise thread 0's counter. Who comes first is told, even if it takes no other step.
+#[test]
+fn the_first_raises() {
+    let before = [(0, 4), (1, 2)];
+    for (first, second) in [(0, 1), (1, 0)] {
+        let raised = file(1, &[&[INSERT], &[CONTAINS]], &[&before[..], &[(first, 1)]].concat());
+        assert_eq!(play(&raised).raisers(), [Some(first as u32), None]);
+        let both = file(1, &[&[INSERT], &[CONTAINS]], &[&before[..], &[(first, 1), (second, 5)]].concat());
+        assert_eq!(play(&both).raisers(), [Some(first as u32), None]);
+    }
 }
 
 /// One thread, so many operation bytes and steps, with no test of the writer's in the way.
@@ -100,15 +144,19 @@ fn boundaries() {
 fn small_rooms() {
     let f = bare(1, &[0, SIZE], 40);
     let eleven = Err(Refusal { number: 11, place: 0 });
-    let mut nine = [9; 8];
-    assert_eq!(run(&f, &mut nine[..7], &mut [9; 4]), eleven);
-    assert_eq!(run(&f, &mut nine, &mut [9; 3]), eleven);
-    assert_eq!(nine, [9; 8]);
-    assert!(run(&f, &mut nine, &mut [9; 4]).is_ok());
+    let (mut nine, mut log) = ([9; 2 * PER_OPERATION], [9; 2 * PER_ENTRY]);
     let record = plain::Snapshot { cells: [[5; 2]; 8], collecting: true, size: 5 };
-    assert_eq!(plain::run_lent(&f, &mut nine, &mut [9; 4], &mut [record]), eleven);
+    // one number too few, and one too few for each operation
+    for room in [2 * PER_OPERATION - 1, 2 * (PER_OPERATION - 1)] {
+        assert_eq!(run(&f, &mut nine[..room], &mut log), eleven);
+        assert_eq!(plain::run_lent(&f, &mut nine[..room], &mut log, &mut [record; 2]), eleven);
+    }
+    assert_eq!(run(&f, &mut nine, &mut log[1..]), eleven);
+    assert_eq!((nine, log), ([9; 2 * PER_OPERATION], [9; 2 * PER_ENTRY]));
+    assert!(run(&f, &mut nine, &mut log).is_ok());
+    assert_eq!(plain::run_lent(&f, &mut nine, &mut log, &mut [record]), eleven);
     let mut table = [record; 3];
-    assert!(plain::run_lent(&f, &mut nine, &mut [9; 4], &mut table).is_ok());
+    assert!(plain::run_lent(&f, &mut nine, &mut log, &mut table).is_ok());
     assert_eq!(table[0], plain::Snapshot { cells: [[INVALID; 2]; 8], collecting: false, size: INVALID });
     assert_eq!((table[1].cells[0], table[1].cells[1], table[1].size), ([1, 0], [INVALID; 2], 1));
     assert_eq!(table[2], record);

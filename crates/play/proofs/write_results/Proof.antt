@@ -63,6 +63,15 @@ mul-results-4 c = search needs
 slice-write-results-4 : tie.Need-slice-write-results-4 Inv-loop μ-loop
 slice-write-results-4 c = simp length-set (omega arith)
 
+add-results-4 : tie.Need-add-results-4 Inv-loop μ-loop
+add-results-4 c = search needs
+
+mul-results-5 : tie.Need-mul-results-5 Inv-loop μ-loop
+mul-results-5 c = search needs
+
+slice-write-results-5 : tie.Need-slice-write-results-5 Inv-loop μ-loop
+slice-write-results-5 c = simp length-set (omega arith)
+
 add-i : tie.Need-add-i Inv-loop μ-loop
 add-i c = search needs
 
@@ -107,6 +116,9 @@ write-results-spec =
     add-results-3
     mul-results-4
     slice-write-results-4
+    add-results-4
+    mul-results-5
+    slice-write-results-5
     add-i
     loop-less
     loop-again

@@ -1,4 +1,3 @@
-use borrow.Author.Needs.{needs}
 use Rattle.calculator.proofs.figure5.read_flag.Statement.{statement}
 use Rattle.calculator.proofs.figure5.read_flag.Tie as tie
 
@@ -9,4 +8,4 @@ read-flag-spec =
     (λ c κs. tt)
     (λ c κs. tt)
     (λ c. simp (c .on-to .ensures, c .before .if1 .taken))
-    (λ c. search needs))
+    (λ c. simp (c .done .ensures, c .before .if1 .left)))
