@@ -25,10 +25,12 @@ enum pszenorad_refusal {
     PSZENORAD_TOO_MANY_OPERATIONS = 6,   /* more than 64 operations */
     PSZENORAD_TOO_MANY_STEPS = 7,        /* more than 4,096 steps */
     PSZENORAD_LENGTH = 8,                /* the file does not end with the schedule */
-    PSZENORAD_OPERATION = 9,             /* an operation byte is not allowed; place: the byte's */
+    PSZENORAD_KEY_TOO_LARGE = 9,         /* an insert, delete or contains with a key of 16 or more; place: the byte's */
     PSZENORAD_STEP = 10,                 /* a schedule byte names no thread; place: the byte's */
     PSZENORAD_TOO_SMALL = 11,            /* a lent output is too small */
-    PSZENORAD_LISTS = 12                 /* the writer's lists disagree */
+    PSZENORAD_LISTS = 12,                /* the writer's lists disagree */
+    PSZENORAD_KEY_NOT_BELOW_K = 13,      /* one with a key below 16 that is not below K; place: the byte's */
+    PSZENORAD_SIZE_WITH_KEY = 14         /* a size byte other than 192; place: the byte's */
 };
 
 /* What stands where among the numbers of one operation in results, and how many they are. The raiser is the thread that

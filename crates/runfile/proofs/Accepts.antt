@@ -9,7 +9,8 @@ use lib.Seq.{getD-append-add}
 use borrow.Author.Tests.{ltb-true, ltb-false, eqb-true, not-false}
 use Rattle.figures.specs.Limits.{mostThreads, mostKeys, mostOperations, mostSteps}
 use Rattle.runfile.specs.declared.Refusal.{Refusal}
-use Rattle.runfile.specs.declared.Refusal.the-variants.{Threads, Keys, Offset, TooManyOperations, TooManySteps, Length, Operation, Step}
+use Rattle.runfile.specs.declared.Refusal.the-variants.{Threads, Keys, Offset, TooManyOperations, TooManySteps, Length, KeyTooLarge, KeyNotBelowK, SizeWithKey, Step}
+use Rattle.figures.specs.Codec.{faultOf}
 use Rattle.runfile.specs.Rows.{sumTo, Passes}
 use Rattle.runfile.specs.Layout.{bodyAt, offsetIn, countIn, countOf, operationRight, stepRight}
 use Rattle.runfile.specs.Read.{threadsIn, keysIn, operationsIn, stepsIn, scheduleIn, countsIn, offsetRight, wrongEntry, wrongOperation, wrongStep, rows, refused, accepted, readOf}
@@ -17,6 +18,7 @@ use Rattle.runfile.specs.Accepts.{Accepts}
 use Rattle.runfile.specs.declared.Reading.{Reading}
 use Rattle.runfile.proofs.Laws.{inside, first-before, sum-same, sum-zeros, list-at, length-list, zeros-at}
 use Rattle.runfile.proofs.Rows.{passed, past, rowNamed}
+use Rattle.runfile.proofs.Operations.{byte-none}
 use Rattle.runfile.proofs.Table.{read-passes}
 
 module _ (f : List ℕ) (zero-told : readOf f .number ≡ 0) where
@@ -43,6 +45,11 @@ module _ (f : List ℕ) (zero-told : readOf f .number ≡ 0) where
 
   ends : length f ≡ scheduleIn f + stepsIn f
   ends = eqb-true (length f) (scheduleIn f + stepsIn f) (not-false _ (by Length))
+
+  none-wrong : scheduleIn f ≤ wrongOperation f
+  none-wrong =
+      ltb-false (wrongOperation f) (scheduleIn f)
+      (byte-none _ (faultOf (getD f (wrongOperation f) 0)) (wrongOperation f) (by KeyTooLarge) (by KeyNotBelowK) (by SizeWithKey))
 
   count-at : (i : ℕ) → i < threadsIn f → getD (countsIn f ++ replicate (mostThreads - threadsIn f) 0) i 0 ≡ countIn f i
   count-at i h =
@@ -84,7 +91,7 @@ module _ (f : List ℕ) (zero-told : readOf f .number ≡ 0) where
         operations-allowed =
             λ p l h.
             first-before (operationRight (keysIn f) f) (scheduleIn f - bodyAt (threadsIn f)) (bodyAt (threadsIn f)) p l
-            (omega (arith, ltb-false (wrongOperation f) (scheduleIn f) (by Operation)));
+            (omega (arith, none-wrong));
         steps-named =
             λ p l h.
             ltb-true (getD f p 0) (threadsIn f)

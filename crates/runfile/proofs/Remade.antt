@@ -19,8 +19,9 @@ use Rattle.runfile.specs.Contents.{part, Bytes, Remade}
 use Rattle.runfile.specs.declared.Reading.{Reading}
 use Rattle.runfile.proofs.Laws.{true-false, sum-same, sum-on, list-at, list-snoc, length-list}
 use Rattle.runfile.proofs.Rows.{none-of}
+use Rattle.runfile.proofs.Operations.{allowed-is}
 use Rattle.runfile.proofs.File.{drop-on, word-low, word-high}
-use Rattle.runfile.proofs.Table.{outside-is, allowed-is, write-decides}
+use Rattle.runfile.proofs.Table.{outside-is, write-decides}
 use Rattle.runfile.proofs.Accepts.{by, reads-accepted, offsets-right, facts}
 use Rattle.runfile.specs.Table.{Unwritable, writingOrder, threads-bad, keys-bad, lists-disagree, operations-over, steps-over, operation-bad, step-bad, room-small}
 use Rattle.runfile.specs.declared.Refusal.{Refusal}
@@ -129,7 +130,7 @@ module _ (f : List ℕ) (bytes : Bytes f) (zero-told : readOf f .number ≡ 0) w
     no-row (lists-disagree (inr h)) = h sum-made
     no-row (operations-over h) = omega (arith, operations-length, holds .operations-few)
     no-row (steps-over h) = omega (arith, steps-length, holds .steps-few)
-    no-row (operation-bad {p} h) = h .2 (allowed-is (keysIn f) (getD operations-of p 0) .0 (operation-byte p (h .1)))
+    no-row (operation-bad {p = p} h w) = h .2 (allowed-is (keysIn f) (getD operations-of p 0) .0 (operation-byte p (h .1)))
     no-row (step-bad {p} h) = h .2 (ltb-true (getD schedule-of p 0) (threadsIn f) (step-byte p (h .1)))
     no-row (room-small h) = omega (arith, ap length file-made)
 

@@ -8,9 +8,9 @@ use lib.ListN.{length, getD, take, drop, length-append, List·getD-append, drop-
 use lib.Seq.{take-length, sets, sets-eq, getD-drop, getD-at, getD-append-add, take-at, drop-at, drop-drop}
 use borrow.Author.Tests.{ltb-true, ltb-false}
 use Rattle.figures.specs.Limits.{mostThreads, mostKeys, mostOperations, mostSteps}
-use Rattle.figures.specs.Codec.{allowed}
+use Rattle.figures.specs.Codec.{allowed, faultOf}
 use Rattle.runfile.specs.declared.Refusal.{Refusal}
-use Rattle.runfile.specs.declared.Refusal.the-variants.{Threads, Keys, TooManyOperations, TooManySteps, Operation, Step}
+use Rattle.runfile.specs.declared.Refusal.the-variants.{Threads, Keys, TooManyOperations, TooManySteps, KeyTooLarge, KeyNotBelowK, SizeWithKey, Step}
 use Rattle.runfile.specs.Rows.{sumTo, listFrom, Passes}
 use Rattle.runfile.specs.Layout.{bodyAt, offsetIn, countIn, countOf, operationRight, stepRight, entries, fileOf}
 use Rattle.runfile.specs.Shared.{wrongOperationIn, wrongStepIn}
@@ -22,7 +22,8 @@ use Rattle.runfile.proofs.Laws.{true-false, first-before, sum-same, lis
 use Rattle.runfile.proofs.File.{allCounts, file-drop, file-entry, length-file}
 use Rattle.runfile.proofs.Writer.{writer-passes, ready, writes-told, writes-file}
 use Rattle.runfile.proofs.Rows.{past, rowNamed, none-of}
-use Rattle.runfile.proofs.Table.{outside-is, allowed-is, read-decides}
+use Rattle.runfile.proofs.Operations.{allowed-is, byte-none}
+use Rattle.runfile.proofs.Table.{outside-is, read-decides}
 use Rattle.runfile.proofs.Accepts.{reads-accepted}
 
 module _ (threads keys : ℕ) (counts operations schedule : List ℕ) (room : ℕ)
@@ -88,10 +89,16 @@ module _ (threads keys : ℕ) (counts operations schedule : List ℕ) (room : �
   by : (r : Refusal) → rowNamed (writerRows threads keys counts operations schedule room) r .applies ≡ false
   by = past (writerRows threads keys counts operations schedule room) passes
 
+  none-wrong : length operations ≤ wrongOperationIn keys operations 0 (length operations)
+  none-wrong =
+      ltb-false (wrongOperationIn keys operations 0 (length operations)) (length operations)
+      (byte-none _ (faultOf (getD operations (wrongOperationIn keys operations 0 (length operations)) 0)) 0 (by KeyTooLarge) (by KeyNotBelowK)
+      (by SizeWithKey))
+
   operation-right : (j : ℕ) → j < length operations → allowed keys (getD operations j 0) ≡ true
   operation-right j h =
       first-before (operationRight keys operations) (length operations - 0) 0 j (omega arith)
-      (omega (arith, ltb-false (wrongOperationIn keys operations 0 (length operations)) (length operations) (by Operation)))
+      (omega (arith, none-wrong))
 
   step-right : (j : ℕ) → j < length schedule → getD schedule j 0 < threads
   step-right j h =
@@ -135,7 +142,7 @@ module _ (threads keys : ℕ) (counts operations schedule : List ℕ) (room : �
   no-row (operations-many h) = omega (arith, operationsIn-is, ltb-false mostOperations (length operations) (by TooManyOperations))
   no-row (steps-many h) = omega (arith, stepsIn-is, ltb-false mostSteps (length schedule) (by TooManySteps))
   no-row (length-wrong h) = h (omega (arith, length-is, scheduleIn-is, stepsIn-is))
-  no-row (operation-wrong {p} h) = h .2 (rw keys-is (operation-at p (omega (arith, threads-is)) (omega (arith, scheduleIn-is))))
+  no-row (operation-wrong {p = p} h w) = h .2 (rw keys-is (operation-at p (omega (arith, threads-is)) (omega (arith, scheduleIn-is))))
   no-row (step-wrong {p} h) =
       h .2 (rw threads-is (step-at p (omega (arith, scheduleIn-is)) (omega (arith, length-is, scheduleIn-is, stepsIn-is))))
 

@@ -8,7 +8,7 @@ use native.Mathlib.Omega.{arith}
 use lib.Dec.{eqb}
 use Rattle.runfile.proofs.Laws.{true-false}
 use Rattle.runfile.specs.declared.Refusal.{Refusal}
-use Rattle.runfile.specs.declared.Refusal.the-variants.{NoHead, Threads, Keys, TableCutShort, Offset, TooManyOperations, TooManySteps, Length, Operation, Step, TooSmall, Lists}
+use Rattle.runfile.specs.declared.Refusal.the-variants.{NoHead, Threads, Keys, TableCutShort, Offset, TooManyOperations, TooManySteps, Length, KeyTooLarge, Step, TooSmall, Lists, KeyNotBelowK, SizeWithKey}
 use Rattle.runfile.specs.Refusals.{numberOf}
 use Rattle.runfile.specs.Rows.{Row, row, decide, names, Passes, Stops, here, later}
 use Rattle.runfile.specs.Table.{FirstOf, NoneOf, Decides}
@@ -24,17 +24,19 @@ numbered Offset = omega arith
 numbered TooManyOperations = omega arith
 numbered TooManySteps = omega arith
 numbered Length = omega arith
-numbered Operation = omega arith
+numbered KeyTooLarge = omega arith
 numbered Step = omega arith
 numbered TooSmall = omega arith
 numbered Lists = omega arith
+numbered KeyNotBelowK = omega arith
+numbered SizeWithKey = omega arith
 
 -- the row of a number, to tell rows apart
 abbrev named : ℕ → Refusal
 named n =
     cond (eqb n 1) NoHead (cond (eqb n 2) Threads (cond (eqb n 3) Keys (cond (eqb n 4) TableCutShort (cond (eqb n 5) Offset
-    (cond (eqb n 6) TooManyOperations (cond (eqb n 7) TooManySteps (cond (eqb n 8) Length (cond (eqb n 9) Operation
-    (cond (eqb n 10) Step (cond (eqb n 11) TooSmall Lists))))))))))
+    (cond (eqb n 6) TooManyOperations (cond (eqb n 7) TooManySteps (cond (eqb n 8) Length (cond (eqb n 9) KeyTooLarge
+    (cond (eqb n 10) Step (cond (eqb n 11) TooSmall (cond (eqb n 12) Lists (cond (eqb n 13) KeyNotBelowK SizeWithKey))))))))))))
 
 named-back : (r : Refusal) → named (numberOf r) ≡ r
 named-back NoHead = refl
@@ -45,10 +47,12 @@ named-back Offset = refl
 named-back TooManyOperations = refl
 named-back TooManySteps = refl
 named-back Length = refl
-named-back Operation = refl
+named-back KeyTooLarge = refl
 named-back Step = refl
 named-back TooSmall = refl
 named-back Lists = refl
+named-back KeyNotBelowK = refl
+named-back SizeWithKey = refl
 
 pub one-row : (r s : Refusal) → numberOf r ≡ numberOf s → r ≡ s
 one-row r s e = sym (named-back r) ∙ ap named e ∙ named-back s

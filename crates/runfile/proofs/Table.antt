@@ -1,7 +1,7 @@
 -- `readOf` and `writeOf` are document 01's table: each gives the first row that holds, in its own order, at its place, and accepts
 -- exactly where none holds.
 use Prim.Native.Nat.{ℕ, _+_, _-_, _<_, _≤_}
-use mathlib.Core.Path.{_≡_, refl, sym, ap, _∙_}
+use mathlib.Core.Path.{_≡_, refl, sym, ap, subst, _∙_}
 use mathlib.Core.Bool.{Bool, true, false, not, cond}
 use mathlib.Core.List.{List, [], _∷_, _++_, map}
 use mathlib.Core.Logic.{_⊎_, inl, inr, _≢_, _↔_}
@@ -10,27 +10,28 @@ use native.Mathlib.Decide.{decLt}
 use lib.ListN.{length, getD}
 use lib.Dec.{ltb, eqb}
 use borrow.Author.Tests.{ltb-true, lt-ltb, le-ltb, eqb-true, eqb-false, eq-eqb, ne-eqb, not-true}
-use Rattle.figures.specs.Codec.{callOf, keyOf, isSize, allowed}
-use Rattle.figures.proofs.Codec.{size-not}
+use Rattle.figures.specs.Codec.{allowed, faultOf}
 use Rattle.runfile.specs.Rows.{Row, decide, outside, firstBadIn, sumTo, Passes, Stops}
 use Rattle.runfile.specs.Layout.{entryAt, bodyAt, offsetIn, countIn, countOf, operationRight, stepRight}
-use Rattle.runfile.specs.Read.{threadsIn, keysIn, stepsIn, scheduleIn, offsetRight, rows, runningRows, refused, accepted, readOf}
-use Rattle.runfile.specs.Refusals.{numberOf}
-use Rattle.runfile.specs.Shared.{operationRow, stepRow, roomRow}
+use Rattle.runfile.specs.Read.{threadsIn, keysIn, stepsIn, scheduleIn, offsetRight, wrongOperation, rows, runningRows, refused, accepted, readOf}
+use Rattle.runfile.specs.Refusals.{numberOf, faultRow}
+use Rattle.runfile.specs.Shared.{wrongOperationIn, faultIn, byteRow, stepRow, roomRow}
 use Rattle.runfile.specs.Write.{disagree, unwritten, written, writerRows, writeOf}
-use Rattle.runfile.specs.Table.{Outside, Allowed, First, Refuses, Unplayable, Unwritable, Decides, readingOrder, runningOrder, writingOrder, unread, output-small, short, threads-outside, keys-outside, cut-short, offset-wrong, operations-many, steps-many, length-wrong, operation-wrong, step-wrong, threads-bad, keys-bad, lists-disagree, operations-over, steps-over, operation-bad, step-bad, room-small}
+use Rattle.runfile.specs.Table.{Outside, Allowed, Wrong, key-large, key-over, size-keyed, First, Refuses, Unplayable, Unwritable, Decides, readingOrder, runningOrder, writingOrder, unread, output-small, short, threads-outside, keys-outside, cut-short, offset-wrong, operations-many, steps-many, length-wrong, operation-wrong, step-wrong, threads-bad, keys-bad, lists-disagree, operations-over, steps-over, operation-bad, step-bad, room-small}
 use Rattle.runfile.specs.declared.Refusal.{Refusal}
-use Rattle.runfile.specs.declared.Refusal.the-variants.{NoHead, Threads, Keys, TableCutShort, Offset, TooManyOperations, TooManySteps, Length, Operation, Step, TooSmall}
+use Rattle.runfile.specs.declared.Refusal.the-variants.{NoHead, Threads, Keys, TableCutShort, Offset, TooManyOperations, TooManySteps, Length, KeyTooLarge, KeyNotBelowK, SizeWithKey, Step, TooSmall}
 use Rattle.runfile.specs.declared.Reading.{Reading}
 use Rattle.runfile.proofs.Laws.{true-false, first-low, first-before, first-at}
+use Rattle.runfile.proofs.Operations.{allowed-is, fault-wrong, wrong-fault, byte-on, byte-applies}
 use Rattle.runfile.proofs.Rows.{listed, rowNamed, AllTell, done, _also_, outcome, passed, stopped, number-passes, decide-append, numbered, decides}
 
--- ---- the orders in document 01's numbers: reading gives the lowest number that applies, the writer tests in an order of its own
+-- ---- the orders in the documents' numbers: reading gives the lowest number that applies, 13 and 14 at 9's place; the writer tests
+-- in an order of its own
 
-pub reading-numbers : map numberOf readingOrder ≡ 1 ∷ 2 ∷ 3 ∷ 4 ∷ 5 ∷ 6 ∷ 7 ∷ 8 ∷ 9 ∷ 10 ∷ []
+pub reading-numbers : map numberOf readingOrder ≡ 1 ∷ 2 ∷ 3 ∷ 4 ∷ 5 ∷ 6 ∷ 7 ∷ 8 ∷ 9 ∷ 13 ∷ 14 ∷ 10 ∷ []
 reading-numbers = refl
 
-pub writing-numbers : map numberOf writingOrder ≡ 2 ∷ 3 ∷ 12 ∷ 6 ∷ 7 ∷ 9 ∷ 10 ∷ 11 ∷ []
+pub writing-numbers : map numberOf writingOrder ≡ 2 ∷ 3 ∷ 12 ∷ 6 ∷ 7 ∷ 9 ∷ 13 ∷ 14 ∷ 10 ∷ 11 ∷ []
 writing-numbers = refl
 
 -- ---- each test and what it tests
@@ -45,17 +46,6 @@ outside-is x most = (λ e. go (ltb x 1) refl e, back)
     back : Outside x most → outside x most ≡ true
     back (inl e) = simp (lt-ltb x 1 (omega arith))
     back (inr h) = simp (le-ltb x 1 (omega arith), lt-ltb most x h)
-
-pub allowed-is : (keys byte : ℕ) → (allowed keys byte ≡ true) ↔ Allowed keys byte
-allowed-is keys byte = (λ e. go (isSize (callOf byte)) refl e, back)
-  where
-    go : (b : Bool) → isSize (callOf byte) ≡ b → cond b (eqb byte 192) (ltb (keyOf byte) keys) ≡ true → Allowed keys byte
-    go true e h = inr (eqb-true byte 192 h)
-    go false e h = inl (λ q. true-false (sym (ap isSize q) ∙ e), ltb-true (keyOf byte) keys h)
-
-    back : Allowed keys byte → allowed keys byte ≡ true
-    back (inl a) = simp (size-not (callOf byte) (a .0), lt-ltb (keyOf byte) keys (a .1))
-    back (inr e) = rw e
 
 pub disagree-is : (threads : ℕ) (counts : List ℕ) (operations : ℕ)
     → (disagree threads counts operations ≡ true) ↔ ((length counts ≢ threads) ⊎ (sumTo (countOf counts) (length counts) ≢ operations))
@@ -106,15 +96,32 @@ module _ (keys : ℕ) (bytes : List ℕ) (from to : ℕ) where
   operation-tells : (p : ℕ) → (operationRight keys bytes p ≡ true) ↔ Allowed keys (getD bytes p 0)
   operation-tells p = allowed-is keys (getD bytes p 0)
 
-  pub operation-first : operationRow keys bytes from to .applies ≡ true
-      → First (λ q. Allowed keys (getD bytes q 0)) from to (operationRow keys bytes from to .place)
-  operation-first = bad-is-first _ (operationRight keys bytes) operation-tells from to
+  -- whether there is a byte that is not allowed, and row r of the first such
+  abbrev bad : Bool
+  bad = ltb (wrongOperationIn keys bytes from to) to
 
-  pub operation-applies : (p : ℕ) → First (λ q. Allowed keys (getD bytes q 0)) from to p
-      → (operationRow keys bytes from to .applies ≡ true) × (operationRow keys bytes from to .place ≡ p)
-  operation-applies p h =
+  abbrev rowOf : Refusal → Row
+  rowOf = byteRow bad (faultIn keys bytes from to) (wrongOperationIn keys bytes from to)
+
+  pub operation-first : (r : Refusal) → rowOf r .applies ≡ true
+      → First (λ q. Allowed keys (getD bytes q 0)) from to (rowOf r .place) × Wrong keys (getD bytes (rowOf r .place) 0) r
+  operation-first r e =
+      let on = byte-on bad (faultIn keys bytes from to) (wrongOperationIn keys bytes from to) r e in
+      let low = first-low (operationRight keys bytes) (to - from) from in
+      let h = ltb-true (wrongOperationIn keys bytes from to) to (on .0) in (
+        bad-is-first _ (operationRight keys bytes) operation-tells from to (on .0),
+        subst (Wrong keys (getD bytes (wrongOperationIn keys bytes from to) 0)) (on .1)
+            (fault-wrong keys _ (first-at (operationRight keys bytes) (to - from) from (omega arith))),
+      )
+
+  pub operation-applies : (r : Refusal) (p : ℕ) → First (λ q. Allowed keys (getD bytes q 0)) from to p → Wrong keys (getD bytes p 0) r
+      → (rowOf r .applies ≡ true) × (rowOf r .place ≡ p)
+  operation-applies r p h w =
       let good = operationRight keys bytes in
-      (first-applies _ good operation-tells from to p h, first-is-bad _ good operation-tells from to p h)
+      let e : wrongOperationIn keys bytes from to ≡ p = first-is-bad _ good operation-tells from to p h in
+      let own : faultIn keys bytes from to ≡ r = ap (λ (q : ℕ). faultRow (faultOf (getD bytes q 0))) e ∙ wrong-fault keys _ w in
+      let some = first-applies _ good operation-tells from to p h in
+      (byte-applies bad (faultIn keys bytes from to) (wrongOperationIn keys bytes from to) r some own, e)
 
 module _ (threads : ℕ) (bytes : List ℕ) (from to : ℕ) where
   step-tells : (p : ℕ) → (stepRight threads bytes p ≡ true) ↔ (getD bytes p 0 < threads)
@@ -148,7 +155,12 @@ module _ (f : List ℕ) where
   refuses-applies (operations-many h) = (lt-ltb _ _ h, refl)
   refuses-applies (steps-many h) = (lt-ltb _ _ h, refl)
   refuses-applies (length-wrong h) = (ap not (ne-eqb _ _ h), refl)
-  refuses-applies (operation-wrong {p} h) = operation-applies (keysIn f) f (bodyAt (threadsIn f)) (scheduleIn f) p h
+  refuses-applies (operation-wrong {r} {p} h (key-large c l)) =
+      operation-applies (keysIn f) f (bodyAt (threadsIn f)) (scheduleIn f) r p h (key-large c l)
+  refuses-applies (operation-wrong {r} {p} h (key-over c u l)) =
+      operation-applies (keysIn f) f (bodyAt (threadsIn f)) (scheduleIn f) r p h (key-over c u l)
+  refuses-applies (operation-wrong {r} {p} h (size-keyed c n)) =
+      operation-applies (keysIn f) f (bodyAt (threadsIn f)) (scheduleIn f) r p h (size-keyed c n)
   refuses-applies (step-wrong {p} h) = step-applies (threadsIn f) f (scheduleIn f) (scheduleIn f + stepsIn f) p h
 
   refuses-listed : {r : Refusal} {p : ℕ} → Refuses f r p → listed readingOrder r ≡ true
@@ -160,13 +172,24 @@ module _ (f : List ℕ) where
   refuses-listed (operations-many h) = refl
   refuses-listed (steps-many h) = refl
   refuses-listed (length-wrong h) = refl
-  refuses-listed (operation-wrong h) = refl
+  refuses-listed (operation-wrong h (key-large c l)) = refl
+  refuses-listed (operation-wrong h (key-over c u l)) = refl
+  refuses-listed (operation-wrong h (size-keyed c n)) = refl
   refuses-listed (step-wrong h) = refl
 
   -- An entry point that reads the file and has rows of its own after reading's: it means by reading's rows what reading means.
   module _ (Holds : Refusal → ℕ → Type 0) (reads : (r : Refusal) (p : ℕ) → Refuses f r p → Holds r p)
       (back : (r : Refusal) (p : ℕ) → listed readingOrder r ≡ true → Holds r p → Refuses f r p)
       {rs : List Row} (rest : AllTell Holds rs) where
+    bad-byte : (r : Refusal)
+        → byteRow (ltb (wrongOperation f) (scheduleIn f)) (faultIn (keysIn f) f (bodyAt (threadsIn f)) (scheduleIn f)) (wrongOperation f) r
+        .applies
+        ≡ true
+        → Holds r (wrongOperation f)
+    bad-byte r e =
+        let w = operation-first (keysIn f) f (bodyAt (threadsIn f)) (scheduleIn f) r e in
+        reads r (wrongOperation f) (operation-wrong (w .0) (w .1))
+
     pub tells-after : AllTell Holds (rows f ++ rs)
     tells-after =
         (λ e. reads _ _ (short (ltb-true _ _ e)), λ p h. refuses-applies (back NoHead p refl h))
@@ -180,10 +203,9 @@ module _ (f : List ℕ) where
         also (λ e. reads _ _ (operations-many (ltb-true _ _ e)), λ p h. refuses-applies (back TooManyOperations p refl h))
         also (λ e. reads _ _ (steps-many (ltb-true _ _ e)), λ p h. refuses-applies (back TooManySteps p refl h))
         also (λ e. reads _ _ (length-wrong (eqb-false _ _ (not-true _ e))), λ p h. refuses-applies (back Length p refl h))
-        also (
-          λ e. reads _ _ (operation-wrong (operation-first (keysIn f) f (bodyAt (threadsIn f)) (scheduleIn f) e)),
-          λ p h. refuses-applies (back Operation p refl h),
-        )
+        also (λ e. bad-byte KeyTooLarge e, λ p h. refuses-applies (back KeyTooLarge p refl h))
+        also (λ e. bad-byte KeyNotBelowK e, λ p h. refuses-applies (back KeyNotBelowK p refl h))
+        also (λ e. bad-byte SizeWithKey e, λ p h. refuses-applies (back SizeWithKey p refl h))
         also (
           λ e. reads _ _ (step-wrong (step-first (threadsIn f) f (scheduleIn f) (scheduleIn f + stepsIn f) e)),
           λ p h. refuses-applies (back Step p refl h),
@@ -269,9 +291,24 @@ module _ (threads keys : ℕ) (counts operations schedule : List ℕ) (room : �
   unwritable-applies (lists-disagree h) = (disagree-is threads counts (length operations) .1 h, refl)
   unwritable-applies (operations-over h) = (lt-ltb _ _ h, refl)
   unwritable-applies (steps-over h) = (lt-ltb _ _ h, refl)
-  unwritable-applies (operation-bad {p} h) = operation-applies keys operations 0 (length operations) p h
+  unwritable-applies (operation-bad {r} {p} h (key-large c l)) = operation-applies keys operations 0 (length operations) r p h (key-large c l)
+  unwritable-applies (operation-bad {r} {p} h (key-over c u l)) =
+      operation-applies keys operations 0 (length operations) r p h (key-over c u l)
+  unwritable-applies (operation-bad {r} {p} h (size-keyed c n)) =
+      operation-applies keys operations 0 (length operations) r p h (size-keyed c n)
   unwritable-applies (step-bad {p} h) = step-applies threads schedule 0 (length schedule) p h
   unwritable-applies (room-small h) = (lt-ltb _ _ h, refl)
+
+  bad-written : (r : Refusal)
+      → byteRow (ltb (wrongOperationIn keys operations 0 (length operations)) (length operations))
+      (faultIn keys operations 0 (length operations))
+      (wrongOperationIn keys operations 0 (length operations))
+      r
+      .applies
+      ≡ true
+      → Unwritable threads keys counts operations schedule room r (wrongOperationIn keys operations 0 (length operations))
+  bad-written r e =
+      let w = operation-first keys operations 0 (length operations) r e in operation-bad (w .0) (w .1)
 
   writer-tells : AllTell (Unwritable threads keys counts operations schedule room) (writerRows threads keys counts operations schedule room)
   writer-tells =
@@ -280,7 +317,9 @@ module _ (threads keys : ℕ) (counts operations schedule : List ℕ) (room : �
       also (λ e. lists-disagree (disagree-is threads counts (length operations) .0 e), λ p h. unwritable-applies h)
       also (λ e. operations-over (ltb-true _ _ e), λ p h. unwritable-applies h)
       also (λ e. steps-over (ltb-true _ _ e), λ p h. unwritable-applies h)
-      also (λ e. operation-bad (operation-first keys operations 0 (length operations) e), λ p h. unwritable-applies h)
+      also (λ e. bad-written KeyTooLarge e, λ p h. unwritable-applies h)
+      also (λ e. bad-written KeyNotBelowK e, λ p h. unwritable-applies h)
+      also (λ e. bad-written SizeWithKey e, λ p h. unwritable-applies h)
       also (λ e. step-bad (step-first threads schedule 0 (length schedule) e), λ p h. unwritable-applies h)
       also (λ e. room-small (ltb-true _ _ e), λ p h. unwritable-applies h)
       also done

@@ -1,4 +1,4 @@
--- What reading a file answers: document 01's table, row by row.
+-- What reading a file answers: the table of refusals, row by row.
 use Prim.Native.Nat.{ℕ, _+_, _-_}
 use mathlib.Core.List.{List, [], _∷_, _++_}
 use mathlib.Core.Bool.{Bool, not}
@@ -7,7 +7,7 @@ use lib.Dec.{ltb, eqb}
 use Rattle.figures.specs.Limits.{mostThreads}
 use Rattle.runfile.specs.Rows.{Row, row, decide, firstBadIn, sumTo, listFrom}
 use Rattle.runfile.specs.Layout.{entryAt, bodyAt, offsetIn, countIn}
-use Rattle.runfile.specs.Shared.{threadsRow, keysRow, operationsRow, stepsRow, wrongOperationIn, wrongStepIn, operationRow, stepRow, roomRow}
+use Rattle.runfile.specs.Shared.{threadsRow, keysRow, operationsRow, stepsRow, wrongOperationIn, wrongStepIn, operationRows, stepRow, roomRow}
 use Rattle.runfile.specs.declared.Refusal.the-variants.{NoHead, TableCutShort, Offset, Length}
 use Rattle.runfile.specs.declared.Reading.{Reading}
 
@@ -61,8 +61,8 @@ tableRows f =
 
 abbrev pub bodyRows : List ℕ → List Row
 bodyRows f =
-    operationRow (keysIn f) f (bodyAt (threadsIn f)) (scheduleIn f)
-    ∷ stepRow (threadsIn f) f (scheduleIn f) (scheduleIn f + stepsIn f)
+    operationRows (keysIn f) f (bodyAt (threadsIn f)) (scheduleIn f)
+    ++ stepRow (threadsIn f) f (scheduleIn f) (scheduleIn f + stepsIn f)
     ∷ []
 
 abbrev pub rows : List ℕ → List Row

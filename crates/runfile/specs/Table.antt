@@ -1,4 +1,4 @@
--- Document 01's table as a reader reads it: the order of the rows, and for each row when it holds, and at which place. It is stated
+-- The table of refusals as a reader reads it: the order of the rows, and for each row when it holds, and at which place. It is stated
 -- in bytes at positions and sums of counts, apart from `readOf` and `writeOf`; proofs/Table.antt shows that they agree.
 use Prim.Native.Nat.{ℕ, _+_, _<_, _≤_}
 use mathlib.Core.Path.{_≡_}
@@ -10,7 +10,7 @@ use Rattle.figures.specs.declared.Call.the-variants.{Size}
 use Rattle.figures.specs.Codec.{callOf, keyOf}
 use Rattle.figures.specs.Limits.{mostThreads, mostKeys, mostOperations, mostSteps}
 use Rattle.runfile.specs.declared.Refusal.{Refusal}
-use Rattle.runfile.specs.declared.Refusal.the-variants.{NoHead, Threads, Keys, TableCutShort, Offset, TooManyOperations, TooManySteps, Length, Operation, Step, TooSmall, Lists}
+use Rattle.runfile.specs.declared.Refusal.the-variants.{NoHead, Threads, Keys, TableCutShort, Offset, TooManyOperations, TooManySteps, Length, KeyTooLarge, Step, TooSmall, Lists, KeyNotBelowK, SizeWithKey}
 use Rattle.runfile.specs.Refusals.{numberOf}
 use Rattle.runfile.specs.Rows.{sumTo}
 use Rattle.runfile.specs.Layout.{entryAt, bodyAt, offsetIn, countIn, countOf, fileOf}
@@ -23,23 +23,38 @@ Outside x most = (x ≡ 0) ⊎ (most < x)
 abbrev pub Allowed : ℕ → ℕ → Type 0
 Allowed keys byte = ((callOf byte ≢ Size) × (keyOf byte < keys)) ⊎ (byte ≡ 192)
 
+-- what is wrong with another, by the row that it meets: the low six bits are a key of 16 or more; or one below 16 that is not
+-- below K; or it is a size, and not 192
+pub data Wrong (keys byte : ℕ) : Refusal → Type 0 where
+  key-large : callOf byte ≢ Size → mostKeys ≤ keyOf byte → Wrong keys byte KeyTooLarge
+  key-over : callOf byte ≢ Size → keyOf byte < mostKeys → keys ≤ keyOf byte → Wrong keys byte KeyNotBelowK
+  size-keyed : callOf byte ≡ Size → byte ≢ 192 → Wrong keys byte SizeWithKey
+
+-- a byte is allowed, or it has one of the three rows; never two of these four
+pub record OneOfFour (keys byte : ℕ) : Type 0 where
+  pub some : Allowed keys byte ⊎ ((r : Refusal) × Wrong keys byte r)
+  pub not-both : (r : Refusal) → Allowed keys byte → Wrong keys byte r → ⊥
+  pub one-row : (r s : Refusal) → Wrong keys byte r → Wrong keys byte s → r ≡ s
+
 -- p is the first place from `from` on and before `to` that is not good
 abbrev pub First : (ℕ → Type 0) → ℕ → ℕ → ℕ → Type 0
 First Good from to p =
     (from ≤ p) × (p < to) × (Good p → ⊥) × ((q : ℕ) → from ≤ q → q < p → Good q)
 
--- ---- the order of the rows: of reading, of running (where outputs are lent), of writing
+-- ---- the order of the rows: of reading, of running (where outputs are lent), of writing; the three rows of an operation byte
+-- share a place in it, since the first byte that is not allowed has one of them
 
 abbrev pub readingOrder : List Refusal
 readingOrder =
-    NoHead ∷ Threads ∷ Keys ∷ TableCutShort ∷ Offset ∷ TooManyOperations ∷ TooManySteps ∷ Length ∷ Operation ∷ Step ∷ []
+    NoHead ∷ Threads ∷ Keys ∷ TableCutShort ∷ Offset ∷ TooManyOperations ∷ TooManySteps ∷ Length ∷ KeyTooLarge ∷ KeyNotBelowK
+    ∷ SizeWithKey ∷ Step ∷ []
 
 abbrev pub runningOrder : List Refusal
 runningOrder = readingOrder ++ TooSmall ∷ []
 
 abbrev pub writingOrder : List Refusal
 writingOrder =
-    Threads ∷ Keys ∷ Lists ∷ TooManyOperations ∷ TooManySteps ∷ Operation ∷ Step ∷ TooSmall ∷ []
+    Threads ∷ Keys ∷ Lists ∷ TooManyOperations ∷ TooManySteps ∷ KeyTooLarge ∷ KeyNotBelowK ∷ SizeWithKey ∷ Step ∷ TooSmall ∷ []
 
 -- ---- when a row holds, and at which place
 
@@ -54,8 +69,9 @@ pub data Refuses (f : List ℕ) : Refusal → ℕ → Type 0 where
   operations-many : mostOperations < operationsIn f → Refuses f TooManyOperations 0
   steps-many : mostSteps < stepsIn f → Refuses f TooManySteps 0
   length-wrong : length f ≢ scheduleIn f + stepsIn f → Refuses f Length 0
-  operation-wrong : {p : ℕ} → First (λ q. Allowed (keysIn f) (getD f q 0)) (bodyAt (threadsIn f)) (scheduleIn f) p
-      → Refuses f Operation p
+  operation-wrong : {r : Refusal} {p : ℕ} → First (λ q. Allowed (keysIn f) (getD f q 0)) (bodyAt (threadsIn f)) (scheduleIn f) p
+      → Wrong (keysIn f) (getD f p 0) r
+      → Refuses f r p
   step-wrong : {p : ℕ} → First (λ q. getD f q 0 < threadsIn f) (scheduleIn f) (scheduleIn f + stepsIn f) p
       → Refuses f Step p
 
@@ -72,8 +88,9 @@ pub data Unwritable (threads keys : ℕ) (counts operations schedule : List ℕ)
       → Unwritable threads keys counts operations schedule room Lists 0
   operations-over : mostOperations < length operations → Unwritable threads keys counts operations schedule room TooManyOperations 0
   steps-over : mostSteps < length schedule → Unwritable threads keys counts operations schedule room TooManySteps 0
-  operation-bad : {p : ℕ} → First (λ q. Allowed keys (getD operations q 0)) 0 (length operations) p
-      → Unwritable threads keys counts operations schedule room Operation p
+  operation-bad : {r : Refusal} {p : ℕ} → First (λ q. Allowed keys (getD operations q 0)) 0 (length operations) p
+      → Wrong keys (getD operations p 0) r
+      → Unwritable threads keys counts operations schedule room r p
   step-bad : {p : ℕ} → First (λ q. getD schedule q 0 < threads) 0 (length schedule) p
       → Unwritable threads keys counts operations schedule room Step p
   room-small : room < length (fileOf threads keys counts operations schedule)

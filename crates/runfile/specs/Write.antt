@@ -1,12 +1,12 @@
 -- What the writer answers and writes: its tests in its own order.
 use Prim.Native.Nat.{ℕ}
-use mathlib.Core.List.{List, [], _∷_}
+use mathlib.Core.List.{List, [], _∷_, _++_}
 use mathlib.Core.Bool.{Bool, true, not, cond}
 use lib.ListN.{length}
 use lib.Dec.{ltb, eqb}
 use Rattle.runfile.specs.Rows.{Row, row, decide, sumTo}
 use Rattle.runfile.specs.Layout.{countOf, fileOf}
-use Rattle.runfile.specs.Shared.{threadsRow, keysRow, operationsRow, stepsRow, operationRow, stepRow, roomRow}
+use Rattle.runfile.specs.Shared.{threadsRow, keysRow, operationsRow, stepsRow, operationRows, stepRow, roomRow}
 use Rattle.runfile.specs.declared.Refusal.the-variants.{Lists}
 use Rattle.runfile.specs.declared.Writing.{Writing}
 
@@ -31,8 +31,8 @@ nothing n p = []
 module _ (threads keys : ℕ) (counts operations schedule : List ℕ) (room : ℕ) where
   abbrev pub writerBodyRows : List Row
   writerBodyRows =
-      operationRow keys operations 0 (length operations)
-      ∷ stepRow threads schedule 0 (length schedule)
+      operationRows keys operations 0 (length operations)
+      ++ stepRow threads schedule 0 (length schedule)
       ∷ roomRow (ltb room (length (fileOf threads keys counts operations schedule)))
       ∷ []
 

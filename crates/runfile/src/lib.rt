@@ -6,14 +6,14 @@ ghost use Prim.Native.Nat.{_+_, _-_, _*_, _/_, _%_, _≤_, _<_};
 ghost use lib.ListN.{length, replicate};
 ghost use lib.Seq.{sets};
 ghost use Rattle.figures.specs.Limits.{mostThreads, mostOperations, mostSteps};
-ghost use Rattle.figures.specs.Codec.{allowed};
-ghost use Rattle.runfile.specs.Refusals.{numberOf};
+ghost use Rattle.figures.specs.Codec.{allowed, faultOf};
+ghost use Rattle.runfile.specs.Refusals.{numberOf, faultRow};
 ghost use Rattle.runfile.specs.Rows.{outside, firstBadIn, sumTo, listFrom, decide};
 ghost use Rattle.runfile.specs.Layout.{wordAt, entryAt, bodyAt, countIn, operationRight, stepRight, countOf, entries, fileOf};
 ghost use Rattle.runfile.specs.Read.{threadsIn, operationsIn, stepsIn, scheduleIn, wrongEntry, refused, accepted, bodyRows, tableRows, readOf};
 ghost use Rattle.runfile.specs.Write.{disagree, unwritten, written, writerBodyRows, writeOf, writtenOf};
 
-// The rows of document 01's table, by name. What each asks and in which order they are tried, specs/Read.antt and specs/Write.antt say.
+// The rows of the table of refusals, by name. What each asks and in which order they are tried, specs/Read.antt and specs/Write.antt say.
 pub enum Refusal {
     NoHead,
     Threads,
@@ -23,10 +23,12 @@ pub enum Refusal {
     TooManyOperations,
     TooManySteps,
     Length,
-    Operation,
+    KeyTooLarge,
     Step,
     TooSmall,
     Lists,
+    KeyNotBelowK,
+    SizeWithKey,
 }
 
 impl Refusal {
@@ -43,10 +45,12 @@ impl Refusal {
             Refusal::TooManyOperations => 6,
             Refusal::TooManySteps => 7,
             Refusal::Length => 8,
-            Refusal::Operation => 9,
+            Refusal::KeyTooLarge => 9,
             Refusal::Step => 10,
             Refusal::TooSmall => 11,
             Refusal::Lists => 12,
+            Refusal::KeyNotBelowK => 13,
+            Refusal::SizeWithKey => 14,
         }
     }
 }
@@ -124,6 +128,19 @@ fn is_allowed(keys: u8, byte: u8) -> bool
         return byte == 192;
     }
     figures::key_of(byte) < keys
+}
+
+// The row of an operation byte that is not allowed: the kind is looked at first, and then the key.
+fn fault(byte: u8) -> Refusal
+    ensures { λ r. ⌜ r ≡ faultRow (faultOf byte) ⌝ }
+{
+    if figures::is_size(figures::call_of(byte)) {
+        return Refusal::SizeWithKey;
+    }
+    if figures::key_of(byte) < Machine::KEYS {
+        return Refusal::KeyNotBelowK;
+    }
+    Refusal::KeyTooLarge
 }
 
 // The first byte from `from` up to `end` that is no allowed operation, or `end`.
@@ -233,7 +250,7 @@ fn read_bodies(file: &[u8], operations: usize, schedule: usize, steps: usize) ->
     let operations_at = HEADER + ENTRY * (wide(threads) + 1);
     let operation = wrong_operation(file, keys, operations_at, schedule);
     if operation < schedule {
-        return not_read(Refusal::Operation, operation);
+        return not_read(fault(file[operation]), operation);
     }
     let end = schedule + steps;
     let step = wrong_step(file, threads, schedule, end);
@@ -280,7 +297,7 @@ fn read_table(file: &[u8]) -> Reading
     read_bodies(file, operations, schedule, steps)
 }
 
-// Reads a run file: the first row of document 01's table that holds, or what the file holds and where it lies.
+// Reads a run file: the first row of the table that holds, or what the file holds and where it lies.
 pub fn read(file: &[u8]) -> Reading
     ensures { λ r. ⌜ r ≡ readOf (now (file .entry)) ⌝ }
 {
@@ -363,7 +380,7 @@ fn judge_bodies(
 {
     let operation = wrong_operation(operations, keys, 0, operations.len());
     if operation < operations.len() {
-        return not_written(Refusal::Operation, operation);
+        return not_written(fault(operations[operation]), operation);
     }
     let step = wrong_step(schedule, threads, 0, schedule.len());
     if step < schedule.len() {

@@ -79,6 +79,32 @@ fn try_counts(out: &mut [u8]) {
     try_write(1, 1, &one, b"", b"\x00\x00", out);
 }
 
+// One operation byte that is not allowed: a size with a key, key K, key 16 where there are 16 keys; and key K before a schedule byte
+// that names no thread.
+fn try_faults(out: &mut [u8]) {
+    let one = [1u16; 1];
+    try_write(1, 16, &one, b"\xff", b"\x00", out);
+    try_write(1, 12, &one, b"\x0c", b"\x00", out);
+    try_write(1, 16, &one, b"\x10", b"\x00", out);
+    try_write(1, 12, &one, b"\x8c", b"\x01", out);
+}
+
+// A right byte, and then an insert with key 16, a delete with key K and a size with a key, in each order: the first decides. A key first.
+fn try_key_first(out: &mut [u8]) {
+    let four = [4u16; 1];
+    try_write(1, 12, &four, b"\x0b\x10\x4c\xff", b"\x00", out);
+    try_write(1, 12, &four, b"\x0b\x10\xff\x4c", b"\x00", out);
+    try_write(1, 12, &four, b"\x0b\x4c\x10\xff", b"\x00", out);
+    try_write(1, 12, &four, b"\x0b\x4c\xff\x10", b"\x00", out);
+}
+
+// The size first.
+fn try_size_first(out: &mut [u8]) {
+    let four = [4u16; 1];
+    try_write(1, 12, &four, b"\x0b\xff\x10\x4c", b"\x00", out);
+    try_write(1, 12, &four, b"\x0b\xff\x4c\x10", b"\x00", out);
+}
+
 // Wrong bytes, and then none.
 fn try_bytes(out: &mut [u8]) {
     let none = [0u16; 1];
@@ -101,5 +127,8 @@ fn main() {
     try_write(1, 17, &none, b"\x00", b"\x00\x00", &mut out);
     try_counts(&mut out);
     try_many(&mut out);
+    try_faults(&mut out);
+    try_key_first(&mut out);
+    try_size_first(&mut out);
     try_bytes(&mut out);
 }

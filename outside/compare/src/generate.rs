@@ -181,7 +181,7 @@ fn nudge(r: &mut Random, file: &mut [u8], length: usize) {
 
 /// Wrong lists, which a file then holds under a right table, or which the writer is given.
 fn damage_lists(r: &mut Random, l: &mut Lists) {
-    match r.below(9) {
+    match r.below(10) {
         0 => l.threads = r.pick(&[0, 9, 255, l.threads.wrapping_sub(1), l.threads + 1]),
         1 => l.keys = r.pick(&[0, 17, 255, l.keys.wrapping_sub(1), l.keys + 1]),
         2 => put_somewhere(r, &mut l.operations, 64),
@@ -203,6 +203,7 @@ fn damage_lists(r: &mut Random, l: &mut Lists) {
                 *count = r.pick(&[0, 1, 64, 65, 65535, count.wrapping_add(1), count.wrapping_sub(1)]);
             }
         }
+        8 => (0..4).for_each(|_| put_bad(r, l)),
         _ if r.once_in(2) => l.counts.push(r.below(2) as u16),
         _ => drop(l.counts.pop()),
     }
@@ -217,6 +218,19 @@ fn put_somewhere(r: &mut Random, operations: &mut [u8], near: u8) {
     };
     let at = r.below(operations.len().max(1));
     edit(operations, at, byte);
+}
+
+/// Puts an operation byte that is not allowed in place of one of the list's: a key of 16 or more, one that is not below K, or a size
+/// with a key.
+fn put_bad(r: &mut Random, l: &mut Lists) {
+    let kind = 64 * r.below(3) as u8;
+    let byte = match r.below(3) {
+        0 => kind + 16 + r.below(48) as u8,
+        1 => kind + l.keys.min(16) + r.below(2) as u8,
+        _ => 193 + r.below(63) as u8,
+    };
+    let at = r.below(l.operations.len().max(1));
+    edit(&mut l.operations, at, byte);
 }
 
 /// Fills up to about the most operations, with counts that agree.

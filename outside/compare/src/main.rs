@@ -34,11 +34,14 @@ fn asked() -> Result<Asked, String> {
     Ok(asked)
 }
 
+/// The numbers that may be given: 0, and the refusals 1 to 14.
+const NUMBERS: usize = 15;
+
 /// How often each number was given, by reading, writing, running, and running with a lent table.
 #[derive(Default)]
 struct Tally {
     sorts: [u64; 4],
-    numbers: [[u64; 13]; 4],
+    numbers: [[u64; NUMBERS]; 4],
     texts: u64,
 }
 
@@ -54,13 +57,13 @@ impl Tally {
 
     fn merge(&mut self, other: &Tally) {
         (0..4).for_each(|i| self.sorts[i] += other.sorts[i]);
-        (0..4).for_each(|i| (0..13).for_each(|j| self.numbers[i][j] += other.numbers[i][j]));
+        (0..4).for_each(|i| (0..NUMBERS).for_each(|j| self.numbers[i][j] += other.numbers[i][j]));
         self.texts += other.texts;
     }
 
     fn print(&self) {
         println!("random {} damaged {} valid {} limit {}", self.sorts[0], self.sorts[1], self.sorts[2], self.sorts[3]);
-        println!("number          {}", (0..13).map(|n| format!("{n:>9}")).collect::<String>());
+        println!("number          {}", (0..NUMBERS).map(|n| format!("{n:>9}")).collect::<String>());
         for (name, row) in ["read", "write", "run", "lent"].iter().zip(&self.numbers) {
             println!("{name:<16}{}", row.iter().map(|n| format!("{n:>9}")).collect::<String>());
         }
@@ -70,8 +73,10 @@ impl Tally {
     /// Every number that can be given was given: else the strings are not what they are made for.
     fn reaches_all(&self) -> bool {
         let given = |row: usize, numbers: &[usize]| numbers.iter().all(|n| self.numbers[row][*n] > 0);
-        let files = [0, 1, 2, 3, 4, 5, 6, 7, 8, 9, 10];
-        given(0, &files) && given(1, &[0, 2, 3, 6, 7, 9, 10, 11, 12]) && (2..4).all(|row| given(row, &files) && given(row, &[11]))
+        let files = [0, 1, 2, 3, 4, 5, 6, 7, 8, 9, 13, 14, 10];
+        given(0, &files)
+            && given(1, &[0, 2, 3, 12, 6, 7, 9, 13, 14, 10, 11])
+            && (2..4).all(|row| given(row, &files) && given(row, &[11]))
     }
 }
 

@@ -12,6 +12,13 @@ enum Fault {
     None,
     ReadPlace,
     ReadLeftover,
+    /// 9 told for each operation byte that is not allowed
+    ReadOneNumber,
+    /// 9 and 13 taken for one another
+    ReadSwapped,
+    /// the first key of 16 or more told, though another byte before it is not allowed
+    ReadFirstOfKind,
+    WriteOneNumber,
     WriteLength,
     WriteBeyond,
     WriteRefused,
@@ -82,6 +89,15 @@ fn with_room(file: &[u8], results: &mut [u32], run: impl FnOnce(&mut [u32]) -> P
     answer
 }
 
+/// The first key of 16 or more behind an operation byte that is not allowed, if there is one.
+fn tell_large_key(file: &[u8], r: &mut Reading) {
+    let entry = 2 + 4 * file[0] as usize;
+    let schedule_at = u16::from_le_bytes([file[entry], file[entry + 1]]) as usize;
+    if let Some(i) = file[r.place..schedule_at].iter().position(|b| b / 64 < 3 && b % 64 > 15) {
+        (r.number, r.place) = (9, r.place + i);
+    }
+}
+
 struct Faulty(Fault);
 
 impl Faulty {
@@ -109,6 +125,9 @@ impl Side for Faulty {
         let mut r = Plain.read(file);
         match self.0 {
             Fault::ReadPlace if r.number == 9 => r.place += 1,
+            Fault::ReadOneNumber if r.number > 12 => r.number = 9,
+            Fault::ReadSwapped if matches!(r.number, 9 | 13) => r.number = 9 + 13 - r.number,
+            Fault::ReadFirstOfKind if r.number > 12 => tell_large_key(file, &mut r),
             Fault::ReadLeftover if r.number == 10 => r.threads = file[0],
             _ => (),
         }
@@ -118,6 +137,7 @@ impl Side for Faulty {
     fn write(&self, lists: &Lists, out: &mut [u8]) -> Writing {
         let mut w = Plain.write(lists, out);
         match self.0 {
+            Fault::WriteOneNumber if w.number > 12 => w.number = 9,
             Fault::WriteLength if w.number == 0 => w.length -= 1,
             Fault::WriteBeyond if w.number == 0 => drop(out.get_mut(w.length).map(|b| *b ^= 255)),
             Fault::WriteRefused if w.number == 12 => drop(out.first_mut().map(|b| *b ^= 255)),
@@ -161,6 +181,10 @@ fn each_fault_is_seen() {
     let faults = [
         ReadPlace,
         ReadLeftover,
+        ReadOneNumber,
+        ReadSwapped,
+        ReadFirstOfKind,
+        WriteOneNumber,
         WriteLength,
         WriteBeyond,
         WriteRefused,

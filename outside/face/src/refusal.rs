@@ -2,7 +2,7 @@
 
 use std::fmt;
 
-/// The numbers of document 01's table by name, as the library answers them; `ACCEPTED` where nothing was refused.
+/// The numbers of the table of refusals by name, as the library answers them; `ACCEPTED` where nothing was refused.
 pub mod number {
     pub const ACCEPTED: u32 = 0;
     pub const NO_HEAD: u32 = 1;
@@ -13,10 +13,12 @@ pub mod number {
     pub const TOO_MANY_OPERATIONS: u32 = 6;
     pub const TOO_MANY_STEPS: u32 = 7;
     pub const LENGTH: u32 = 8;
-    pub const OPERATION: u32 = 9;
+    pub const KEY_TOO_LARGE: u32 = 9;
     pub const STEP: u32 = 10;
     pub const TOO_SMALL: u32 = 11;
     pub const LISTS: u32 = 12;
+    pub const KEY_NOT_BELOW_K: u32 = 13;
+    pub const SIZE_WITH_KEY: u32 = 14;
 }
 
 /// Why a file or the writer's lists were refused. A place is a position in the file, or in the writer's list.
@@ -38,14 +40,18 @@ pub enum Refusal {
     TooManySteps,
     /// 8: the file does not end with the schedule
     Length,
-    /// 9: the operation byte at this place is not allowed
-    Operation(usize),
+    /// 9: the insert, delete or contains at this place has a key of 16 or more, which no file has
+    KeyTooLarge(usize),
     /// 10: the schedule byte at this place names no thread
     Step(usize),
     /// 11: a lent output is too small
     TooSmall,
     /// 12: the writer's lists disagree
     Lists,
+    /// 13: the insert, delete or contains at this place has a key below 16 that is not below K
+    KeyNotBelowK(usize),
+    /// 14: the byte at this place has the kind bits of a size and is not 192
+    SizeWithKey(usize),
 }
 
 impl Refusal {
@@ -61,10 +67,12 @@ impl Refusal {
             number::TOO_MANY_OPERATIONS => Refusal::TooManyOperations,
             number::TOO_MANY_STEPS => Refusal::TooManySteps,
             number::LENGTH => Refusal::Length,
-            number::OPERATION => Refusal::Operation(place),
+            number::KEY_TOO_LARGE => Refusal::KeyTooLarge(place),
             number::STEP => Refusal::Step(place),
             number::TOO_SMALL => Refusal::TooSmall,
             number::LISTS => Refusal::Lists,
+            number::KEY_NOT_BELOW_K => Refusal::KeyNotBelowK(place),
+            number::SIZE_WITH_KEY => Refusal::SizeWithKey(place),
             other => unreachable!("the library is proved to give no number {other}"),
         })
     }
@@ -80,17 +88,23 @@ impl Refusal {
             Refusal::TooManyOperations => number::TOO_MANY_OPERATIONS,
             Refusal::TooManySteps => number::TOO_MANY_STEPS,
             Refusal::Length => number::LENGTH,
-            Refusal::Operation(_) => number::OPERATION,
+            Refusal::KeyTooLarge(_) => number::KEY_TOO_LARGE,
             Refusal::Step(_) => number::STEP,
             Refusal::TooSmall => number::TOO_SMALL,
             Refusal::Lists => number::LISTS,
+            Refusal::KeyNotBelowK(_) => number::KEY_NOT_BELOW_K,
+            Refusal::SizeWithKey(_) => number::SIZE_WITH_KEY,
         }
     }
 
     /// The place told with it, 0 where none is.
     pub fn place(self) -> usize {
         match self {
-            Refusal::Offset(place) | Refusal::Operation(place) | Refusal::Step(place) => place,
+            Refusal::Offset(place)
+            | Refusal::KeyTooLarge(place)
+            | Refusal::Step(place)
+            | Refusal::KeyNotBelowK(place)
+            | Refusal::SizeWithKey(place) => place,
             _ => 0,
         }
     }
@@ -107,10 +121,12 @@ impl fmt::Display for Refusal {
             Refusal::TooManyOperations => "there are more than 64 operations",
             Refusal::TooManySteps => "there are more than 4,096 steps",
             Refusal::Length => "the file does not end with the schedule",
-            Refusal::Operation(_) => "an operation byte is not allowed",
+            Refusal::KeyTooLarge(_) => "the key of an insert, delete or contains is 16 or more: look at its low six bits",
             Refusal::Step(_) => "a schedule byte names no thread",
             Refusal::TooSmall => "a lent output is too small",
             Refusal::Lists => "the lists' lengths disagree",
+            Refusal::KeyNotBelowK(_) => "the key of an insert, delete or contains is not below K: look at the key and at K, byte 1",
+            Refusal::SizeWithKey(_) => "a size has a key, and is not 192: look at the two kind bits",
         };
         write!(f, "refused {} at {}: {why}", self.number(), self.place())
     }
@@ -125,7 +141,7 @@ mod tests {
     #[test]
     fn each_number_has_its_case() {
         assert_eq!(Refusal::unless(number::ACCEPTED, 7), Ok(()));
-        for n in number::NO_HEAD..=number::LISTS {
+        for n in number::NO_HEAD..=number::SIZE_WITH_KEY {
             assert_eq!(Refusal::unless(n, 7).map_err(Refusal::number), Err(n));
         }
     }

@@ -24,6 +24,14 @@ static int files(void) {
     EXPECT(r.operations_at == 10 && r.operations == OPERATIONS && r.schedule_at == 12 && r.steps == 11);
     r = pszenorad_read(file, sizeof file - 1);
     EXPECT(r.number == PSZENORAD_LENGTH && r.place == 0 && r.threads == 0);
+    memcpy(out, file, sizeof file);
+    out[11] = 1;
+    r = pszenorad_read(out, sizeof file);
+    EXPECT(r.number == PSZENORAD_KEY_NOT_BELOW_K && r.place == 11 && r.threads == 0);
+    out[11] = 193;
+    EXPECT(pszenorad_read(out, sizeof file).number == PSZENORAD_SIZE_WITH_KEY);
+    out[11] = 16;
+    EXPECT(pszenorad_read(out, sizeof file).number == PSZENORAD_KEY_TOO_LARGE);
     pszenorad_write_answer w = pszenorad_write(1, 1, counts, 1, file + 10, OPERATIONS, file + 12, 11, out, sizeof out);
     EXPECT(w.number == PSZENORAD_ACCEPTED && w.length == sizeof file && memcmp(out, file, sizeof file) == 0);
     return 0;

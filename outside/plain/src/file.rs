@@ -47,16 +47,23 @@ fn refuse<A>(number: u32, place: usize) -> Result<A, Refusal> {
     Err(Refusal { number, place })
 }
 
-fn allowed(byte: u8, keys: u8) -> bool {
-    let (kind, key) = (byte >> 6, byte & 63);
-    if kind == 3 {
-        key == 0
-    } else {
-        key < keys
+/// The number of the refusal that an operation byte meets, if it is not allowed.
+fn fault(byte: u8, keys: u8) -> Option<u32> {
+    match (byte >> 6, byte & 63) {
+        (3, 0) => None,
+        (3, _) => Some(14),
+        (_, 16..) => Some(9),
+        (_, key) if key >= keys => Some(13),
+        _ => None,
     }
 }
 
-/// The lowest refusal that applies, or the contents.
+/// The first operation byte that is not allowed decides between 9, 13 and 14: its number and its position.
+fn first_fault(operations: &[u8], keys: u8) -> Option<(u32, usize)> {
+    operations.iter().enumerate().find_map(|(i, byte)| Some((fault(*byte, keys)?, i)))
+}
+
+/// The first refusal in the order of the table that applies, or the contents.
 pub fn read(file: &[u8]) -> Result<Contents, Refusal> {
     let (threads, keys) = match file {
         [threads, keys, ..] => (*threads, *keys),
@@ -86,7 +93,7 @@ pub fn read(file: &[u8]) -> Result<Contents, Refusal> {
     read_bodies(file, threads, keys, &entries)
 }
 
-/// The refusals that need a right table, 6 to 10.
+/// The refusals that need a right table: 6 to 8, then 9, 13 or 14, then 10.
 fn read_bodies(file: &[u8], threads: u8, keys: u8, entries: &[(usize, usize)]) -> Result<Contents, Refusal> {
     let ((schedule_at, steps), per_thread) = match entries.split_last() {
         Some((last, rest)) => (*last, rest),
@@ -103,8 +110,8 @@ fn read_bodies(file: &[u8], threads: u8, keys: u8, entries: &[(usize, usize)]) -
         return refuse(8, 0);
     }
     let operations_at = schedule_at - operations;
-    if let Some(i) = file[operations_at..schedule_at].iter().position(|b| !allowed(*b, keys)) {
-        return refuse(9, operations_at + i);
+    if let Some((number, i)) = first_fault(&file[operations_at..schedule_at], keys) {
+        return refuse(number, operations_at + i);
     }
     if let Some(i) = file[schedule_at..].iter().position(|b| *b >= threads) {
         return refuse(10, schedule_at + i);
@@ -134,8 +141,8 @@ pub fn write(threads: u8, keys: u8, counts: &[u16], operations: &[u8], schedule:
     if schedule.len() > STEPS {
         return refuse(7, 0);
     }
-    if let Some(i) = operations.iter().position(|b| !allowed(*b, keys)) {
-        return refuse(9, i);
+    if let Some((number, i)) = first_fault(operations, keys) {
+        return refuse(number, i);
     }
     if let Some(i) = schedule.iter().position(|b| *b >= threads) {
         return refuse(10, i);

@@ -134,10 +134,39 @@ fn boundaries() {
     assert_eq!(refusal(&bare(1, &[], 4096)), None);
     assert_eq!(refusal(&bare(1, &[], 4097)), Some((7, 0)));
     assert_eq!(refusal(&bare(5, &[4, 4 + 64, 4 + 128], 0)), None);
-    assert_eq!(refusal(&bare(5, &[4, 5], 0)), Some((9, 11)));
+    assert_eq!(refusal(&bare(5, &[4, 5], 0)), Some((13, 11)));
     assert_eq!(refusal(&bare(16, &[192], 0)), None);
     assert_eq!(refusal(&bare(16, &[191], 0)), Some((9, 10)));
-    assert_eq!(refusal(&bare(16, &[193], 0)), Some((9, 10)));
+    assert_eq!(refusal(&bare(16, &[193], 0)), Some((14, 10)));
+}
+
+/// Keys and kinds of every byte for every K, and which of several bad bytes decides.
+#[test]
+fn bad_operation_bytes() {
+    let refusal = |f: &[u8]| read(f).err().map(|r| (r.number, r.place));
+    for (keys, byte) in (1..=16).flat_map(|keys| (0..=255).map(move |byte| (keys, byte))) {
+        let number = match byte {
+            192 => None,
+            193.. => Some(14),
+            _ if byte % 64 < keys => None,
+            _ if byte % 64 < 16 => Some(13),
+            _ => Some(9),
+        };
+        assert_eq!(refusal(&bare(keys, &[byte], 0)), number.map(|n| (n, 10)), "{byte} of {keys} keys");
+        let written = plain::write(1, keys, &[1], &[byte], &[], &mut [0; 11]);
+        assert_eq!(written, number.map_or(Ok(11), |number| Err(Refusal { number, place: 0 })), "{byte} of {keys} keys");
+    }
+    let three = [(16, 9), (64 + 12, 13), (255, 14)];
+    for (i, j) in (0..3).flat_map(|i| (0..3).map(move |j| (i, j))).filter(|(i, j)| i != j) {
+        let bytes = [0, three[i].0, three[j].0, three[3 - i - j].0];
+        assert_eq!(refusal(&bare(12, &bytes, 0)), Some((three[i].1, 11)), "{bytes:?}");
+        let written = plain::write(1, 12, &[4], &bytes, &[1], &mut [0; 15]);
+        assert_eq!(written, Err(Refusal { number: three[i].1, place: 1 }), "{bytes:?}");
+    }
+    // a bad operation byte before a bad schedule byte, whatever their numbers
+    let mut both = bare(12, &[0, 193], 1);
+    both[12] = 1;
+    assert_eq!(refusal(&both), Some((14, 11)));
 }
 
 #[test]

@@ -1,9 +1,16 @@
-use mathlib.Core.Path.{ap, _∙_}
-use lib.ListN.{length}
+use Prim.Native.Nat.{ℕ}
+use mathlib.Core.Path.{sym, ap, _∙_}
+use mathlib.Core.List.{[], _∷_}
+use lib.ListN.{length, getD}
+use lib.Dec.{ltb}
+use Rattle.figures.specs.Codec.{faultOf}
+use Rattle.runfile.specs.declared.Refusal.{Refusal}
+use Rattle.runfile.specs.Refusals.{numberOf, faultRow}
+use Rattle.runfile.proofs.Operations.{bad-stops}
 use borrow.Author.Tests.{lt-ltb, le-ltb}
 use Rattle.runfile.specs.Layout.{fileOf}
-use Rattle.runfile.specs.Shared.{wrongOperationIn, wrongStepIn}
-use Rattle.runfile.specs.Write.{unwritten}
+use Rattle.runfile.specs.Shared.{wrongOperationIn, wrongStepIn, faultIn, stepRow, roomRow}
+use Rattle.runfile.specs.Write.{unwritten, written}
 use Rattle.runfile.proofs.File.{length-file}
 use native.Mathlib.Omega.{arith}
 use borrow.Author.Needs.{needs}
@@ -13,16 +20,31 @@ use Rattle.runfile.proofs.judge_bodies.Tie as tie
 wrong-operation-requires : tie.Need-wrong-operation-requires
 wrong-operation-requires c κs = search needs
 
+shared-slice-read-fault : tie.Need-shared-slice-read-fault
+shared-slice-read-fault c = search needs
+
+fault-requires : tie.Need-fault-requires
+fault-requires c κs = search needs
+
 not-written-requires : tie.Need-not-written-requires
 not-written-requires c κs = search needs
 
 returns : tie.Need-returns
 returns c =
-    let o = c .before .before .before .before .before .before in
+    let o = c .before .before .before .before .before .before .before .before in
     let ops = o .args .operations .now in
     let steps = o .args .schedule .now in
-    let on = lt-ltb (wrongOperationIn (o .args .keys) ops 0 (length ops)) (length ops) (omega arith) in
-    simp on (c .not-written .ensures ∙ ap (unwritten 9) (c .before .before .wrong-operation .ensures))
+    let w = c .before .before .before .before .wrong-operation in
+    let own = c .before .fault .ensures ∙ ap (λ (p : ℕ). faultRow (faultOf (getD ops p 0))) (w .ensures) in
+    c .not-written .ensures
+    ∙ ap (λ (r : Refusal). unwritten (numberOf r) (w .result)) own
+    ∙ ap (unwritten (numberOf (faultIn (o .args .keys) ops 0 (length ops)))) (w .ensures)
+    ∙ sym
+    (bad-stops unwritten (written (o .args .threads) (o .args .keys) (o .args .counts .now) ops steps) (o .args .keys) ops 0 (length ops)
+    (stepRow (o .args .threads) steps 0 (length steps)
+    ∷ roomRow (ltb (o .args .room) (length (fileOf (o .args .threads) (o .args .keys) (o .args .counts .now) ops steps)))
+    ∷ [])
+    (omega arith))
 
 wrong-step-requires : tie.Need-wrong-step-requires
 wrong-step-requires c κs = search needs
@@ -84,6 +106,8 @@ judge-bodies-spec =
     tie.close
     (tie.spec
     wrong-operation-requires
+    shared-slice-read-fault
+    fault-requires
     not-written-requires
     returns
     wrong-step-requires

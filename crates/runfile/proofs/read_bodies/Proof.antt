@@ -1,7 +1,15 @@
-use Prim.Native.Nat.{_+_}
-use mathlib.Core.Path.{_≡_, ap, _∙_}
+use Prim.Native.Nat.{ℕ, _+_}
+use mathlib.Core.Path.{_≡_, sym, ap, _∙_}
+use mathlib.Core.List.{[], _∷_}
+use lib.ListN.{getD}
+use Rattle.figures.specs.Codec.{faultOf}
+use Rattle.runfile.specs.declared.Refusal.{Refusal}
+use Rattle.runfile.specs.Refusals.{numberOf, faultRow}
+use Rattle.runfile.specs.Layout.{bodyAt}
+use Rattle.runfile.specs.Shared.{stepRow}
+use Rattle.runfile.proofs.Operations.{bad-stops}
 use borrow.Author.Tests.{lt-ltb, le-ltb}
-use Rattle.runfile.specs.Read.{refused, stepsIn, scheduleIn, wrongOperation, wrongStep}
+use Rattle.runfile.specs.Read.{refused, accepted, threadsIn, keysIn, stepsIn, scheduleIn, wrongOperation, wrongStep}
 use native.Mathlib.Omega.{arith}
 use borrow.Author.Needs.{needs}
 use Rattle.runfile.proofs.read_bodies.Statement.{statement}
@@ -28,16 +36,29 @@ add-operations-at-2 c = search needs
 wrong-operation-requires : tie.Need-wrong-operation-requires
 wrong-operation-requires c κs = search needs
 
+shared-slice-read-fault : tie.Need-shared-slice-read-fault
+shared-slice-read-fault c = search needs
+
+fault-requires : tie.Need-fault-requires
+fault-requires c κs = search needs
+
 not-read-requires : tie.Need-not-read-requires
 not-read-requires c κs = search needs
 
 returns : tie.Need-returns
 returns c =
-    let s = c .before .before .before .before .before .before .before in
+    let s = c .before .before .before .before .before .before .before .before .before in
     let f = s .args .file .now in
-    let e : c .before .before .wrong-operation .result ≡ wrongOperation f = simp (c .before .before .before .wide .ensures .0, s .pre .4) at (c .before .before .wrong-operation .ensures) in
-    let on = lt-ltb (wrongOperation f) (scheduleIn f) (omega arith) in
-    simp on (c .not-read .ensures ∙ ap (refused 9) e)
+    let w = c .before .before .before .before .wrong-operation in
+    let e : w .result ≡ wrongOperation f = simp (c .before .before .before .before .before .wide .ensures .0, s .pre .4) at (w .ensures) in
+    let own = c .before .fault .ensures ∙ ap (λ (p : ℕ). faultRow (faultOf (getD f p 0))) e in
+    c .not-read .ensures
+    ∙ ap (λ (r : Refusal). refused (numberOf r) (w .result)) own
+    ∙ ap (refused (numberOf (faultRow (faultOf (getD f (wrongOperation f) 0))))) e
+    ∙ sym
+    (bad-stops refused (accepted f) (keysIn f) f (bodyAt (threadsIn f)) (scheduleIn f)
+    (stepRow (threadsIn f) f (scheduleIn f) (scheduleIn f + stepsIn f) ∷ [])
+    (omega arith))
 
 add-end : tie.Need-add-end
 add-end c = search needs
@@ -85,6 +106,8 @@ read-bodies-spec =
     mul-operations-at
     add-operations-at-2
     wrong-operation-requires
+    shared-slice-read-fault
+    fault-requires
     not-read-requires
     returns
     add-end
