@@ -1,6 +1,6 @@
 -- An exchange in a snapshot's record, or in the block of counters: what is there afterwards, the value that is found, and what history
 -- keeps of it.
-use Rattle.std.specs.Prelude.{ℕ, ◌-◌, Bool, true, false, cond, List, ◌==◌, slice_index_or, slice_set}
+use Rattle.std.specs.Prelude.{ℕ, ◌-◌, false, cond, List, ◌==◌, slice_index_or, slice_set}
 use Rattle.terms.specs.declared.SnapshotId.{SnapshotId}
 use Rattle.terms.specs.declared.Target.{Target}
 use Rattle.figures.specs.declared.Kind.{Kind}

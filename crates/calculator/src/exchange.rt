@@ -9,7 +9,7 @@ use super::figure4::{THREADS, block_of, count_at, count_of, new_id, set_count, w
 use figures::{Cell, Counts, Kind, Machine, Snapshot, Trace};
 use terms::{SnapshotId, Target};
 
-#[derive(Drop)]
+#[derive(Clone, Copy)]
 pub enum Exchange {
     Nothing,
     // A cell: the known value for a new one.

@@ -15,7 +15,7 @@ use super::figure6::total;
 use figures::{Cell, Counts, Machine, SizePoint, Snapshot, Trace, UpdatePoint};
 use terms::{SnapshotId, Target, ThreadId};
 
-#[derive(Drop)]
+#[derive(Clone, Copy)]
 pub enum Request {
     // Nothing of these two: an access of a slot, or of which snapshot is current.
     Nothing,

@@ -1,10 +1,10 @@
 -- One order for 'later': what a part of a step of thread t, in operation a, leaves of the state. Whatever it does is done after step x.
-use Prim.Native.Nat.{ℕ, suc, ◌+◌, ◌≤◌, ◌<◌}
-use mathlib.Core.Path.{◌≡◌, refl, sym, ap, ◌∙◌}
+use Prim.Native.Nat.{ℕ, ◌≤◌, ◌<◌}
+use mathlib.Core.Path.{◌≡◌}
 use mathlib.Core.Logic.{◌≢◌, ◌⊎◌}
-use mathlib.Core.Bool.{Bool, true, false}
+use mathlib.Core.Bool.{false}
 use Rattle.figures.specs.Limits.{invalid}
-use Rattle.figures.proofs.World.{World, thr, key, call, cell_op}
+use Rattle.figures.proofs.World.{World, thr, cell_op}
 use Rattle.figures.proofs.Inv.{Known}
 
 -- an operation that another one's step leaves alone; its raising alone is not its own

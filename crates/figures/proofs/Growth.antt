@@ -8,8 +8,6 @@ use native.Mathlib.Decide.{ℕ_discrete, dec_lt}
 use borrow.Author.Tests.{ne_eqb}
 use Rattle.history.proofs.Tally.{tally_all}
 use Rattle.figures.specs.declared.Asked.{Asked}
-use Rattle.figures.specs.declared.Kind.{Kind}
-use Rattle.figures.specs.declared.Kind.TheVariants.{Insertion, Deletion}
 use Rattle.figures.specs.declared.Content.{Content}
 use Rattle.figures.specs.declared.Content.TheVariants.{Live, Marked}
 use Rattle.figures.specs.declared.Point.{Point}
@@ -24,7 +22,7 @@ use Rattle.figures.specs.declared.Next.{Next}
 use Rattle.figures.specs.declared.Next.TheVariants.{To, Returns}
 use Rattle.figures.specs.Limits.{invalid}
 use Rattle.figures.proofs.Laws.{test_case}
-use Rattle.figures.proofs.World.{World, put, put_same, put_other, put_case, key, cell_op, no_of, call_for, kind_of, update_cell, update_target, update_op, tick, find, exchange, empty, raise, write, announce, lower, keep, fix, share, stand, return, act, update, compute, onward, kind_call}
+use Rattle.figures.proofs.World.{World, put, put_same, put_other, put_case, key, cell_op, no_of, update_cell, update_target, update_op, tick, find, exchange, empty, raise, write, announce, lower, keep, fix, share, stand, return, act, update, compute, onward, kind_call}
 use Rattle.figures.proofs.Inv.{Core, Known, Noted, Behind, raised_to}
 use Rattle.figures.proofs.Grows.{Alone, Still, Rise, Swap, Ages, Owed, Grows}
 use Rattle.figures.proofs.Guar.{Acting, RaisesNow, ForwardsNow, GuarUpdate, GuarSize, Guar}

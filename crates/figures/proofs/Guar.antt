@@ -1,13 +1,12 @@
 -- What a thread knows when it changes the memory: the facts under which each part of a step keeps what holds.
 -- `x` is the latest step before this one, and the clock tells this step's number already.
-use Prim.Native.Nat.{ℕ, suc, ◌+◌, ◌≤◌, ◌<◌}
+use Prim.Native.Nat.{ℕ, suc, ◌+◌, ◌<◌}
 use mathlib.Core.Path.{◌≡◌}
-use mathlib.Core.Logic.{◌≢◌, ◌⊎◌}
-use mathlib.Core.Bool.{Bool, true, false}
+use mathlib.Core.Logic.{◌≢◌}
+use mathlib.Core.Bool.{false}
 use Rattle.figures.specs.declared.Kind.TheVariants.{Insertion, Deletion}
-use Rattle.figures.specs.declared.Content.{Content}
 use Rattle.figures.specs.declared.Content.TheVariants.{Empty, Live, Marked}
-use Rattle.figures.specs.declared.Call.TheVariants.{Insert, Delete, Contains, Size}
+use Rattle.figures.specs.declared.Call.TheVariants.{Insert, Delete, Size}
 use Rattle.figures.specs.declared.Node.{Node}
 use Rattle.figures.specs.declared.Update.{Update}
 use Rattle.figures.specs.declared.UpdateDeed.{UpdateDeed}
@@ -17,8 +16,8 @@ use Rattle.figures.specs.declared.SizeDeed.TheVariants.{Looks, Announces, Collec
 use Rattle.figures.specs.declared.Deed.{Deed}
 use Rattle.figures.specs.declared.Deed.TheVariants.{Rests, Finds, Links, Marks, Unlinks, Updates, Sizes}
 use Rattle.figures.specs.Limits.{invalid}
-use Rattle.figures.proofs.World.{World, thr, key, call, cell_op, cell_no, no_of, update_cell, update_target, update_op}
-use Rattle.figures.proofs.Inv.{Noted, Settled, Forwarding, Behind, Carrying, Lowering, Summing, Known, Using, Fits, FoundSettled, total}
+use Rattle.figures.proofs.World.{World, thr, key, call, cell_no, no_of, update_cell, update_target, update_op}
+use Rattle.figures.proofs.Inv.{Noted, Settled, Forwarding, Behind, Carrying, Lowering, Summing, Using, Fits, FoundSettled, total}
 
 -- the operation o of thread t takes a step
 pub record Acting (T n x : ℕ) (w : World) (t o : ℕ) : Type 0 where

@@ -1,21 +1,18 @@
 -- The invariants hold in every state of every run.
-use Prim.Native.Nat.{ℕ, zero, suc, ◌+◌, ◌≤◌, ◌<◌}
+use Prim.Native.Nat.{ℕ, suc, ◌≤◌, ◌<◌}
 use mathlib.Core.Path.{◌≡◌, refl, sym, ap, ◌∙◌, subst, fun_ext}
 use mathlib.Core.Logic.{◌≢◌, ◌⊎◌, inl, inr}
-use mathlib.Core.Bool.{Bool, true, false, cond}
+use mathlib.Core.Bool.{true}
 use mathlib.Core.List.{List, [], ◌∷◌, ◌++◌}
 use native.Mathlib.Omega.{arith}
 use native.Mathlib.Nat.{le_refl}
 use native.Mathlib.Decide.{ℕ_discrete, dec_lt}
-use lib.ListN.{length, get_or, get_or-eq_default}
+use lib.ListN.{length, get_or-eq_default}
 use borrow.Author.Tests.{lt-ltb, ne_eqb}
 use Rattle.history.proofs.Turns.{owned_apart}
 use Rattle.terms.specs.declared.ThreadId.{ThreadId}
-use Rattle.terms.specs.declared.OpId.{OpId}
-use Rattle.figures.specs.declared.Cell.{Cell}
 use Rattle.figures.specs.declared.Call.{Call}
 use Rattle.figures.specs.declared.Call.TheVariants.{Insert, Delete, Contains, Size}
-use Rattle.figures.specs.declared.Sight.{Sight}
 use Rattle.figures.specs.declared.Point.{Point}
 use Rattle.figures.specs.declared.Point.TheVariants.{Idle, ReadSlot, Updating, CountInsertions, Link, HelpUnlink, CountDeletions, Mark, Unlink, Sizing}
 use Rattle.figures.specs.declared.UpdateDeed.{UpdateDeed}
@@ -31,7 +28,6 @@ use Rattle.figures.specs.declared.Update.{Update}
 use Rattle.figures.specs.declared.Record.{Record}
 use Rattle.figures.specs.declared.Asked.{Asked}
 use Rattle.figures.specs.declared.Machine.{Machine}
-use Rattle.figures.specs.Limits.{invalid}
 use Rattle.figures.specs.Figure4.{sight_of}
 use Rattle.figures.specs.Figure3.{entry, looks_at_cell, looks_at_snapshot}
 use Rattle.figures.specs.Step.{no_record, local_at, record_at, content_at, stands_at, access_of, move_of, accessed, idled, step_of, run_of}
@@ -47,7 +43,7 @@ use Rattle.figures.proofs.Sound.{Sound, few_ops, run_keeps_within}
 use Rattle.figures.proofs.Sizes.{current_small, current_counts, announced_step}
 use Rattle.figures.proofs.Counted.{Facts, facts_start, facts_step}
 use Rattle.figures.proofs.Threads.{Threads}
-use Rattle.figures.proofs.World.{World, put, put_same, put_other, put_case, thr, key, call, no_of, update_op, tick, act, onward, update, compute}
+use Rattle.figures.proofs.World.{World, put_same, put_other, put_case, thr, key, call, update_op, tick, act, onward}
 use Rattle.figures.proofs.Inv.{Core, Knows, Inv, Noted}
 use Rattle.figures.proofs.Grows.{Alone, Still, Grows}
 use Rattle.figures.proofs.Growth.{grows_tick, grows_act, grows_onward}
@@ -66,9 +62,9 @@ use Rattle.figures.proofs.FindersKept.{finders_tick, finders_act, finders_onward
 use Rattle.figures.proofs.ReturnedKept.{returned_tick, returned_act, returned_onward, Ends}
 use Rattle.figures.proofs.Quiet.{act_last}
 use Rattle.figures.proofs.Pass.{core_pass, knows_pass}
-use Rattle.figures.proofs.Mirror.{world_of, pass, count_at_lem, cell_at_lem, InRange, DeedInRange, UpdateInRange, SizeInRange, world_accessed, world_idled}
+use Rattle.figures.proofs.Mirror.{world_of, pass, count_at_lem, cell_at_lem, DeedInRange, UpdateInRange, SizeInRange, world_accessed, world_idled}
 use Rattle.figures.proofs.MirrorStart.{total_mine, start_inv}
-use Rattle.figures.proofs.OwnUpdate.{Sees, Onward, Branch, Past}
+use Rattle.figures.proofs.OwnUpdate.{Onward, Branch, Past}
 use Rattle.figures.proofs.OwnSize.{thread_in}
 use Rattle.figures.proofs.OwnSet.{access_branch}
 

@@ -39,7 +39,7 @@ use Rattle.figures.specs.declared.Machine.{Machine}
 use Rattle.figures.specs.Limits.{invalid}
 use Rattle.figures.specs.Figure4.{more, count_of, both, count_at, set_count, block_of, no_snapshot, no_trace, snapshot_at, trace_at, with_snapshot, with_trace, fresh_snapshot, fresh_trace, raised, written, announced, lowered, fixed, window_of, new_id}
 use Rattle.figures.specs.Figure3.{cell_of}
-use Rattle.figures.specs.Step.{no_local, no_record, no_slot, local_at, record_at, with_content, with_local, with_record, with_clock, does, goes_on, ticked, idled, rewritten, calculated, counted, answered, exchanged_at, raised_at, with_look, with_used, with_seen, standing, finished, updates, sizes, accessed, move_of}
+use Rattle.figures.specs.Step.{no_local, no_record, no_slot, local_at, record_at, with_content, with_local, with_record, with_clock, does, goes_on, ticked, idled, rewritten, calculated, counted, answered, exchanged_at, raised_at, with_look, with_used, with_seen, standing, finished, sizes, accessed, move_of}
 use Rattle.figures.proofs.Laws.{set_case, set_field, count_case, cell_path, eq_case, cond_map, cond_both, more_is, more_byte_is}
 use Rattle.figures.proofs.Shape.{Shape, shape_ticked, shape_does}
 use Rattle.figures.proofs.World.{World, put, put_same, put_other, put_case, cell_no, no_of, fresh, update_cell, update_target, key, tick, find, exchange, raise, write, announce, lower, keep, fix, share, stand, return, update, act, onward}

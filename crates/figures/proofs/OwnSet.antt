@@ -1,15 +1,11 @@
 -- What a thread inside an insert, a delete or a contains may change, and what it knows after its access.
-use Prim.Native.Nat.{ℕ, zero, suc, ◌+◌, ◌%◌, ◌^◌, ◌≤◌, ◌<◌}
-use mathlib.Core.Path.{◌≡◌, refl, sym, ap, ◌∙◌, subst}
+use Prim.Native.Nat.{ℕ, suc, ◌≤◌, ◌<◌}
+use mathlib.Core.Path.{◌≡◌, refl, sym, ◌∙◌}
 use mathlib.Core.Logic.{◌≢◌, ◌⊎◌, inl, inr}
-use mathlib.Core.Bool.{Bool, true, false, cond, ◌&&◌}
+use mathlib.Core.Bool.{true}
 use mathlib.Core.List.{List}
 use native.Mathlib.Omega.{arith}
-use native.Mathlib.Nat.{le_refl}
-use lib.Dec.{eqb}
 use borrow.Author.Tests.{eqb-true}
-use Rattle.terms.specs.declared.ThreadId.{ThreadId}
-use Rattle.terms.specs.declared.OpId.{OpId}
 use Rattle.terms.specs.declared.Target.{Target}
 use Rattle.figures.specs.declared.Kind.{Kind}
 use Rattle.figures.specs.declared.Kind.TheVariants.{Insertion, Deletion}
@@ -22,23 +18,19 @@ use Rattle.figures.specs.declared.Call.TheVariants.{Insert, Delete, Contains, Si
 use Rattle.figures.specs.declared.Node.{Node}
 use Rattle.figures.specs.declared.Update.{Update}
 use Rattle.figures.specs.declared.UpdatePoint.TheVariants.{ReadCount}
-use Rattle.figures.specs.declared.After.{After}
-use Rattle.figures.specs.declared.After.TheVariants.{Answer, ToMark, ToHelpUnlink, ToUnlink}
+use Rattle.figures.specs.declared.After.TheVariants.{Answer, ToMark, ToUnlink}
 use Rattle.figures.specs.declared.Point.{Point}
 use Rattle.figures.specs.declared.Point.TheVariants.{Idle, ReadSlot, Updating, CountInsertions, Link, HelpUnlink, CountDeletions, Mark, Unlink, Sizing}
-use Rattle.figures.specs.declared.Deed.{Deed}
-use Rattle.figures.specs.declared.Deed.TheVariants.{Rests, Finds, Links, Marks, Unlinks}
-use Rattle.figures.specs.declared.Next.{Next}
+use Rattle.figures.specs.declared.Deed.TheVariants.{Rests, Unlinks}
 use Rattle.figures.specs.declared.Next.TheVariants.{To, Returns}
-use Rattle.figures.specs.declared.Move.{Move}
 use Rattle.figures.specs.Figure4.{more}
 use Rattle.figures.specs.Figure6.{total_of}
-use Rattle.figures.specs.Figure3.{insertion, deletion, found, read_slot, link, link_found, mark, help_unlink, unlink, is_live, is_marked, same_node, node_of, count_insertions, count_deletions, goes_to, looks_at_cell, looks_at_snapshot}
+use Rattle.figures.specs.Figure3.{insertion, deletion, found, read_slot, link_found, mark, help_unlink, unlink, is_live, is_marked, same_node, node_of, goes_to, looks_at_cell, looks_at_snapshot}
 use Rattle.figures.specs.Step.{access_of}
 use Rattle.figures.proofs.Laws.{cond_case, and_true}
 use Rattle.figures.proofs.World.{World, put, put_same, thr, key, call, cell_no, no_of, find, exchange, empty, update_op}
-use Rattle.figures.proofs.Inv.{Core, Noted, Settled, Holds, HoldsLive, HoldsMarked, Fits, FoundSettled, IsFound, AtUpdating, AtLink, AtMark, AtHelp, AtUnlink, Knows, total}
-use Rattle.figures.proofs.Guar.{Acting, Guar, New, LinksNow, MarksNow, UnlinksNow, ReturnsNow, ReturnsChanged, ReturnsFinder}
+use Rattle.figures.proofs.Inv.{Core, Noted, Settled, Holds, Fits, FoundSettled, IsFound, AtUpdating, AtMark, AtHelp, AtUnlink, Knows, total}
+use Rattle.figures.proofs.Guar.{Acting, New, UnlinksNow, ReturnsNow}
 use Rattle.figures.proofs.Guar.ReturnsNow.{changed, finder}
 use Rattle.figures.proofs.Same.{noted_same, settled_empty}
 use Rattle.figures.proofs.Stable.{settled_later}
@@ -92,7 +84,9 @@ module _ {T n x : ℕ} {w : World} {t o : ℕ} (core : Core T n x w) (acting : A
     look Delete e i Empty b = returns fresh Empty b 0 (rw (sym e) refl) tt tt
     look Delete e i (Live d) b =
         let h = holds (Live d) b in
-        record { noted = noted_same w _ refl refl refl (own_key h.noted); here = tt; then' = record { fresh = fresh; does = sym e; same = refl; on_key = h.noted.on_key } }
+        let at : AtUpdating (find o (Live d) w) o ReadCount (insertion d) (ToMark d) =
+        record { noted = noted_same w _ refl refl refl (own_key h.noted); here = tt; then' = record { fresh = fresh; does = sym e; same = refl; on_key = h.noted.on_key } } in
+        at
     look Delete e i (Marked m d) b = helping fresh (Marked m d) b (deletion d) 0 (own_key (holds (Marked m d) b).noted) refl (rw (sym e) refl)
     look Contains e i Empty b = returns fresh Empty b 0 (rw (sym e) refl) tt tt
     look Contains e i (Live d) b = helping fresh (Live d) b (insertion d) 1 (own_key (holds (Live d) b).noted) refl (rw (sym e) refl)
@@ -163,11 +157,13 @@ module _ {T n x : ℕ} {w : World} {t o : ℕ} (core : Core T n x w) (acting : A
         record {
           guar = record { fresh = h.0.fresh; does = h.0.does; b = l.0; live = sym e ∙ l.1; same = l.2; noted = h.0.noted; settled = h.0.settled; node = new };
           onward =
+              let at : AtUpdating (exchange o mk.note.1.0 (Marked d mk) w) o ReadCount (deletion mk) (ToUnlink d mk) =
               record {
                 noted = noted_new Deletion (Marked d mk) (deletion mk) new refl h.0.does;
                 here = tt;
                 then' = record { does = h.0.does; same = refl; own = refl };
-              };
+              } in
+              at;
         })
         (λ i. again Delete h.0.fresh h.0.does (inr refl))
 

@@ -1,8 +1,8 @@
 -- What a thread inside a size may change, and what it knows after its access.
-use Prim.Native.Nat.{ℕ, zero, suc, ◌+◌, ◌-◌, ◌*◌, ◌%◌, ◌^◌, ◌≤◌, ◌<◌}
-use mathlib.Core.Path.{◌≡◌, refl, sym, ap, ◌∙◌, subst}
-use mathlib.Core.Logic.{◌≢◌, ◌⊎◌, inl, inr}
-use mathlib.Core.Bool.{Bool, true, false, cond}
+use Prim.Native.Nat.{ℕ, zero, suc, ◌+◌, ◌*◌, ◌≤◌, ◌<◌}
+use mathlib.Core.Path.{◌≡◌, sym, ◌∙◌}
+use mathlib.Core.Logic.{◌≢◌}
+use mathlib.Core.Bool.{true, false, cond}
 use mathlib.Core.List.{List}
 use native.Mathlib.Omega.{arith}
 use native.Mathlib.Nat.{le_refl}
@@ -16,25 +16,23 @@ use Rattle.figures.specs.declared.Sight.{Sight}
 use Rattle.figures.specs.declared.Call.TheVariants.{Size}
 use Rattle.figures.specs.declared.SizePoint.{SizePoint}
 use Rattle.figures.specs.declared.SizePoint.TheVariants.{FindCurrent, FindFlag, Announce, CollectCount, CollectCell, CollectSet, LowerFlag, SumCell, FixSize}
-use Rattle.figures.specs.declared.SizeDeed.{SizeDeed}
-use Rattle.figures.specs.declared.SizeDeed.TheVariants.{Looks, Announces, Collects, Lowers, Keeps, Fixes, Shares}
+use Rattle.figures.specs.declared.SizeDeed.TheVariants.{Looks, Announces, Collects, Fixes, Shares}
 use Rattle.figures.specs.declared.SizeNext.TheVariants.{Goes, Sized}
 use Rattle.figures.specs.declared.SizeMove.{SizeMove}
 use Rattle.figures.specs.declared.Deed.TheVariants.{Sizes}
-use Rattle.figures.specs.declared.Next.TheVariants.{To, Returns}
+use Rattle.figures.specs.declared.Next.TheVariants.{To}
 use Rattle.figures.specs.declared.Point.TheVariants.{Sizing}
-use Rattle.figures.specs.declared.Move.{Move}
 use Rattle.figures.specs.Limits.{invalid}
 use Rattle.figures.specs.Figure4.{more_byte, new_id}
 use Rattle.figures.specs.Figure6.{first_cell, next_cell, each_cell, go_to, collect_next, total_of}
-use Rattle.figures.specs.Figure5.{size_at, size_looks_at, size_cell}
+use Rattle.figures.specs.Figure5.{size_looks_at, size_cell}
 use Rattle.figures.specs.Figure3.{size_next, sizing}
 use Rattle.figures.proofs.Laws.{cond_case, eq_case, lt_case}
-use Rattle.figures.proofs.World.{World, put, put_same, put_other, put_case, thr, key, call, cell_op, cell_no, no_of, announce, write, lower, keep, fix, share}
-use Rattle.figures.proofs.Inv.{Core, Known, Fair, ReadFor, Looking, Using, Collecting, Carrying, Lowering, Summing, AtSize, Knows, total, sum_by}
-use Rattle.figures.proofs.Guar.{Acting, Guar, GuarSize, CollectsNow, FixesNow, ReturnsNow, ReturnsSize}
+use Rattle.figures.proofs.World.{World, put_same, put_case, call, cell_no, no_of, announce, write, lower, keep, fix, share}
+use Rattle.figures.proofs.Inv.{Core, Known, ReadFor, Using, Collecting, Summing, AtSize, total, sum_by}
+use Rattle.figures.proofs.Guar.{Acting, ReturnsSize}
 use Rattle.figures.proofs.Guar.ReturnsNow.{sized}
-use Rattle.figures.proofs.OwnUpdate.{Sees, Onward, Branch, Past, count_small}
+use Rattle.figures.proofs.OwnUpdate.{Sees, Branch, Past, count_small}
 
 -- ---- The cells in order.
 

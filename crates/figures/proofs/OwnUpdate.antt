@@ -1,11 +1,11 @@
 -- What a thread inside an update of the metadata may change, and what it knows after its access.
-use Prim.Native.Nat.{ℕ, zero, suc, ◌+◌, ◌-◌, ◌≤◌, ◌<◌}
+use Prim.Native.Nat.{ℕ, suc, ◌-◌, ◌≤◌, ◌<◌}
 use mathlib.Core.Path.{◌≡◌, refl, sym, ap, ◌∙◌, subst}
 use mathlib.Core.Logic.{◌≢◌, ◌⊎◌, inl, inr}
 use mathlib.Core.Bool.{Bool, true, false, cond, ◌||◌}
 use native.Mathlib.Omega.{arith}
 use native.Mathlib.Nat.{le_refl}
-use native.Mathlib.Decide.{ℕ_discrete, dec_lt}
+use native.Mathlib.Decide.{ℕ_discrete}
 use lib.Dec.{eqb, ltb}
 use borrow.Author.Tests.{eqb-true, eqb-false, ltb-true, ltb-false}
 use Rattle.history.proofs.Tally.{tally_all}
@@ -19,27 +19,24 @@ use Rattle.figures.specs.declared.Update.{Update}
 use Rattle.figures.specs.declared.Sight.{Sight}
 use Rattle.figures.specs.declared.UpdatePoint.{UpdatePoint}
 use Rattle.figures.specs.declared.UpdatePoint.TheVariants.{ReadCount, RaiseCount, ReadCurrent, ReadFlag, ReadAgain, ReadCell, Forward}
-use Rattle.figures.specs.declared.UpdateDeed.{UpdateDeed}
 use Rattle.figures.specs.declared.UpdateDeed.TheVariants.{Reads, Raises, Forwards}
 use Rattle.figures.specs.declared.UpdateMove.{UpdateMove}
 use Rattle.figures.specs.declared.After.{After}
 use Rattle.figures.specs.declared.After.TheVariants.{Answer, ToMark, ToHelpUnlink, ToUnlink}
-use Rattle.figures.specs.declared.Point.{Point}
 use Rattle.figures.specs.declared.Point.TheVariants.{Updating}
-use Rattle.figures.specs.declared.Deed.{Deed}
 use Rattle.figures.specs.declared.Deed.TheVariants.{Updates}
 use Rattle.figures.specs.declared.Next.{Next}
 use Rattle.figures.specs.declared.Next.TheVariants.{To, Returns}
 use Rattle.figures.specs.declared.Move.{Move}
 use Rattle.figures.specs.Limits.{invalid}
 use Rattle.figures.specs.Figure6.{on_to, done, behind, forward_from}
-use Rattle.figures.specs.Figure5.{update_at, update_looks_at}
-use Rattle.figures.specs.Figure3.{insertion, deletion, afterwards, update_next, updating}
+use Rattle.figures.specs.Figure5.{update_looks_at}
+use Rattle.figures.specs.Figure3.{afterwards, update_next, updating}
 use Rattle.figures.proofs.Laws.{cond_case, eq_case, test_case}
-use Rattle.figures.proofs.World.{World, put, put_same, put_other, thr, key, call, cell_op, cell_no, call_for, kind_of, update_cell, update_target, update_op, act, write, raise, kind_call}
+use Rattle.figures.proofs.World.{World, put, put_same, put_other, thr, key, cell_op, update_cell, update_target, update_op, act, write, raise, kind_call}
 use Rattle.figures.proofs.Inv.{Core, Known, Settles, Settled, Noted, Raised, Sighted, Forwarding, Behind, AtUpdate, IsFound, Owning, Helping, Marking, Clearing, Unlinking, Afterwards, AtUpdating, AtMark, AtHelp, AtUnlink, FoundSettled, Knows}
 use Rattle.figures.proofs.Inv.Settles.{alone, after, reached, caught}
-use Rattle.figures.proofs.Guar.{Acting, Guar, GuarUpdate, RaisesNow, ForwardsNow, ReturnsNow, ReturnsChanged, ReturnsFinder}
+use Rattle.figures.proofs.Guar.{Acting, Guar, ReturnsNow}
 use Rattle.figures.proofs.Guar.ReturnsNow.{changed, finder}
 use Rattle.figures.proofs.Stable.{settled_later}
 use Rattle.figures.proofs.Same.{noted_same, afterwards_same}

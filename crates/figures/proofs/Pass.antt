@@ -1,9 +1,8 @@
 -- A step that changes nothing but the clock keeps all that holds.
-use Prim.Native.Nat.{ℕ, suc, ◌≤◌, ◌<◌}
-use mathlib.Core.Path.{◌≡◌, refl, sym, ap, ◌∙◌, fun_ext}
-use mathlib.Core.Logic.{◌≢◌, ◌⊎◌, inl, inr}
+use Prim.Native.Nat.{ℕ, suc, ◌≤◌}
+use mathlib.Core.Path.{◌≡◌, refl, sym, ◌∙◌}
+use mathlib.Core.Logic.{inl}
 use native.Mathlib.Omega.{arith}
-use native.Mathlib.Nat.{le_refl}
 use Rattle.figures.specs.declared.Point.{Point}
 use Rattle.figures.proofs.World.{World}
 use Rattle.figures.proofs.Inv.{Core, Knows, raised_to, Event, stamp}
@@ -12,7 +11,6 @@ use Rattle.figures.proofs.Grows.{Grows}
 use Rattle.figures.proofs.Growth.{grows_still}
 use Rattle.figures.proofs.Stable.{knows_grows}
 use Rattle.figures.proofs.RecordsKept.{records_kept}
-use Rattle.figures.proofs.Quiet.{Quiet}
 use Rattle.figures.proofs.KeysKept.{keys_quiet}
 use Rattle.figures.proofs.FindersKept.{finders_quiet}
 use Rattle.figures.proofs.BalancesKept.{balances_quiet}

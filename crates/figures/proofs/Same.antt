@@ -1,17 +1,16 @@
 -- A fact about the state holds of any state that has the same values where the fact looks.
-use Prim.Native.Nat.{ℕ, suc, ◌≤◌, ◌<◌}
-use mathlib.Core.Path.{◌≡◌, refl, sym, ap, ◌∙◌, subst}
-use mathlib.Core.Logic.{◌≢◌, ◌⊎◌, inl, inr}
+use Prim.Native.Nat.{ℕ, ◌<◌}
+use mathlib.Core.Path.{◌≡◌, sym, ap, ◌∙◌, subst}
+use mathlib.Core.Logic.{inl, inr}
 use Rattle.figures.specs.declared.Kind.{Kind}
 use Rattle.figures.specs.declared.Content.{Content}
-use Rattle.figures.specs.declared.Content.TheVariants.{Empty, Live, Marked}
 use Rattle.figures.specs.declared.Node.{Node}
 use Rattle.figures.specs.declared.Update.{Update}
 use Rattle.figures.specs.declared.After.{After}
 use Rattle.figures.specs.declared.After.TheVariants.{Answer, ToMark, ToHelpUnlink, ToUnlink}
 use Rattle.figures.specs.declared.Asked.{Asked}
 use Rattle.figures.specs.declared.Call.TheVariants.{Insert, Delete}
-use Rattle.figures.proofs.World.{World, thr, key, call, cell_op, call_for, empty}
+use Rattle.figures.proofs.World.{World, call, call_for, empty}
 use Rattle.figures.proofs.Inv.{Noted, Settles, Settled, Afterwards, Owning, Helping, Marking, Clearing, Unlinking}
 use Rattle.figures.proofs.Inv.Settles.{alone, after, reached, caught}
 

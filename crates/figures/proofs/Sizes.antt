@@ -42,7 +42,7 @@ use Rattle.figures.specs.Figure4.{new_id, sight_of}
 use Rattle.figures.specs.Figure5.{size_at}
 use Rattle.figures.specs.Figure3.{looks_at_cell, looks_at_snapshot, link_found, node_of, is_live, is_marked}
 use Rattle.figures.specs.Step.{content_at, local_at, record_at, stands_at, access_of, move_of, does, updates, sizes, goes_on, ticked, accessed, step_of, run_of}
-use Rattle.figures.specs.Start.{start_of, unbegun}
+use Rattle.figures.specs.Start.{start_of}
 use Rattle.figures.specs.Counts.{ops_before, is_announcing, is_announcement, announces_at, announced_steps, SizeSteps}
 use Rattle.figures.proofs.Laws.{cond_both, test_case, tests_differ, more_byte_is}
 use Rattle.figures.proofs.Runs.{step_case, acting}

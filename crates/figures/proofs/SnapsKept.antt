@@ -6,8 +6,6 @@ use mathlib.Core.Bool.{Bool, true, false}
 use native.Mathlib.Omega.{arith}
 use native.Mathlib.Decide.{ℕ_discrete, dec_le}
 use borrow.Author.Tests.{lt-ltb}
-use Rattle.figures.specs.declared.Kind.{Kind}
-use Rattle.figures.specs.declared.Kind.TheVariants.{Insertion, Deletion}
 use Rattle.figures.specs.declared.Update.{Update}
 use Rattle.figures.specs.declared.UpdateDeed.{UpdateDeed}
 use Rattle.figures.specs.declared.UpdateDeed.TheVariants.{Reads, Raises, Forwards}
@@ -19,7 +17,7 @@ use Rattle.figures.specs.declared.Next.{Next}
 use Rattle.figures.specs.declared.Next.TheVariants.{To, Returns}
 use Rattle.figures.specs.Limits.{invalid}
 use Rattle.figures.proofs.Laws.{test_case, tests_differ}
-use Rattle.figures.proofs.World.{World, put, put_same, put_other, put_case, put_field, tick, act, onward, announce, lower, write, fix, fresh, cell_op, kind_of, call_for, no_of, update_op, update_cell, update_target, kind_call}
+use Rattle.figures.proofs.World.{World, put, put_same, put_other, put_case, put_field, tick, act, onward, announce, lower, write, fix, fresh, cell_op, no_of, update_op, update_cell, update_target, kind_call}
 use Rattle.figures.proofs.Inv.{Core, Known, Fair, ReadFor, Fixed, total, Snaps, Lowering}
 use Rattle.figures.proofs.Grows.{Grows}
 use Rattle.figures.proofs.Guar.{Acting, Guar, ForwardsNow, CollectsNow, FixesNow}

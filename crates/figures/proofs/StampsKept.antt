@@ -81,5 +81,5 @@ module _ (T n x : ℕ) (w : World) (c : Core T n x w) where
     stamps_act d g = told (touch T n x w c t o by d g)
 
   pub stamps_onward : (t o : ℕ) (nx : Next) → Stamps (onward nx t o w)
-  stamps_onward t o (To p) = stamped_log _ (reads o) refl (λ j. inl refl)
-  stamps_onward t o (Returns a) = stamped _ (reads o) (λ j. inl refl) (λ j. inl refl) (λ j. inl refl) (λ j. inl refl)
+  stamps_onward t o (To p) = stamped_log (onward (To p) t o w) (reads o) refl (λ j. inl refl)
+  stamps_onward t o (Returns a) = stamped (onward (Returns a) t o w) (reads o) (λ j. inl refl) (λ j. inl refl) (λ j. inl refl) (λ j. inl refl)

@@ -21,7 +21,6 @@ use Rattle.figures.specs.declared.UpdateNext.{UpdateNext}
 use Rattle.figures.specs.declared.UpdateNext.TheVariants.{Then, Done}
 use Rattle.figures.specs.declared.UpdateMove.{UpdateMove}
 use Rattle.figures.specs.declared.SizeNext.{SizeNext}
-use Rattle.figures.specs.declared.SizeNext.TheVariants as SizeNext
 use Rattle.figures.specs.declared.Content.{Content}
 use Rattle.figures.specs.declared.Content.TheVariants.{Empty, Live, Marked}
 use Rattle.figures.specs.declared.Node.{Node}

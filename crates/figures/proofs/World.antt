@@ -1,8 +1,8 @@
 -- The state as functions, for proofs: what each operation's record, each thread, each counter, each snapshot and each slot has.
 -- A counter, and a cell of a snapshot, is told by one number: twice the thread, and one more for deletions. `held` is known to
 -- proofs alone: the cells that a snapshot had at its closing.
-use Prim.Native.Nat.{ℕ, suc, ◌+◌, ◌*◌, ◌/◌, ◌%◌, ◌≤◌, ◌<◌}
-use mathlib.Core.Path.{◌≡◌, refl, sym, ap, ◌∙◌}
+use Prim.Native.Nat.{ℕ, suc, ◌+◌}
+use mathlib.Core.Path.{◌≡◌, refl, sym}
 use mathlib.Core.Logic.{◌≢◌}
 use mathlib.Core.Bool.{Bool, true, false, cond}
 use native.Mathlib.Decide.{ℕ_discrete}
@@ -13,10 +13,9 @@ use Rattle.figures.specs.declared.Kind.TheVariants.{Insertion, Deletion}
 use Rattle.figures.specs.declared.Content.{Content}
 use Rattle.figures.specs.declared.Content.TheVariants.{Empty, Live, Marked}
 use Rattle.figures.specs.declared.Call.{Call}
-use Rattle.figures.specs.declared.Call.TheVariants.{Insert, Delete, Contains, Size}
+use Rattle.figures.specs.declared.Call.TheVariants.{Insert, Delete}
 use Rattle.figures.specs.declared.Point.{Point}
 use Rattle.figures.specs.declared.Point.TheVariants.{Idle}
-use Rattle.figures.specs.declared.Node.{Node}
 use Rattle.figures.specs.declared.Update.{Update}
 use Rattle.figures.specs.declared.UpdateDeed.{UpdateDeed}
 use Rattle.figures.specs.declared.UpdateDeed.TheVariants.{Reads, Raises, Forwards}

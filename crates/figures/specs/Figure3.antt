@@ -1,6 +1,6 @@
 -- Figure 3, the set's operations, one access each. What an access sees: the slot of its key, and of the calculator what
 -- Figure4 says. An access is a move: where the thread goes on, or what it returns, and what the access changes.
-use Rattle.std.specs.Prelude.{ℕ, Bool, true, false, cond, ◌&&◌, List, eqb}
+use Rattle.std.specs.Prelude.{ℕ, Bool, false, cond, ◌&&◌, List, eqb}
 use Rattle.terms.specs.declared.ThreadId.{ThreadId}
 use Rattle.terms.specs.declared.OpId.{OpId}
 use Rattle.terms.specs.declared.SnapshotId.{SnapshotId}
@@ -13,12 +13,10 @@ use Rattle.figures.specs.declared.UpdatePoint.{UpdatePoint}
 use Rattle.figures.specs.declared.UpdatePoint.TheVariants.{ReadCount}
 use Rattle.figures.specs.declared.UpdateNext.{UpdateNext}
 use Rattle.figures.specs.declared.UpdateNext.TheVariants.{Then, Done}
-use Rattle.figures.specs.declared.UpdateMove.{UpdateMove}
 use Rattle.figures.specs.declared.SizePoint.{SizePoint}
 use Rattle.figures.specs.declared.SizePoint.TheVariants.{FindCurrent}
 use Rattle.figures.specs.declared.SizeNext.{SizeNext}
 use Rattle.figures.specs.declared.SizeNext.TheVariants.{Goes, Sized}
-use Rattle.figures.specs.declared.SizeMove.{SizeMove}
 use Rattle.figures.specs.declared.Node.{Node}
 use Rattle.figures.specs.declared.Content.{Content}
 use Rattle.figures.specs.declared.Content.TheVariants.{Empty, Live, Marked}
@@ -29,7 +27,6 @@ use Rattle.figures.specs.declared.After.{After}
 use Rattle.figures.specs.declared.After.TheVariants.{Answer, ToMark, ToHelpUnlink, ToUnlink}
 use Rattle.figures.specs.declared.Point.{Point}
 use Rattle.figures.specs.declared.Point.TheVariants.{Idle, ReadSlot, Updating, CountInsertions, Link, HelpUnlink, CountDeletions, Mark, Unlink, Sizing}
-use Rattle.figures.specs.declared.Deed.{Deed}
 use Rattle.figures.specs.declared.Deed.TheVariants.{Rests, Finds, Links, Marks, Unlinks, Updates, Sizes}
 use Rattle.figures.specs.declared.Next.{Next}
 use Rattle.figures.specs.declared.Next.TheVariants.{To, Returns}

@@ -1,6 +1,5 @@
 -- Figure 4, the calculator's fields: what an access reads of them, and what a write leaves.
 use Rattle.std.specs.Prelude.{ℕ, ◌+◌, ◌%◌, ◌^◌, Bool, true, false, cond, List, [], get_or, set, replicate, eqb}
-use Rattle.terms.specs.declared.ThreadId.{ThreadId}
 use Rattle.terms.specs.declared.SnapshotId.{SnapshotId}
 use Rattle.figures.specs.declared.Kind.{Kind}
 use Rattle.figures.specs.declared.Kind.TheVariants.{Insertion, Deletion}

@@ -1,5 +1,5 @@
 -- Figure 5, the methods of the calculator, one access each: updateMetadata and compute.
-use Rattle.std.specs.Prelude.{ℕ, ◌-◌, Bool, true, false, cond, List, eqb}
+use Rattle.std.specs.Prelude.{ℕ, ◌-◌, Bool, false, cond, List, eqb}
 use Rattle.terms.specs.declared.SnapshotId.{SnapshotId}
 use Rattle.terms.specs.declared.Target.{Target}
 use Rattle.figures.specs.declared.Cell.{Cell}
@@ -8,12 +8,12 @@ use Rattle.figures.specs.declared.Sight.{Sight}
 use Rattle.figures.specs.declared.UpdatePoint.{UpdatePoint}
 use Rattle.figures.specs.declared.UpdatePoint.TheVariants.{ReadCount, RaiseCount, ReadCurrent, ReadFlag, ReadAgain, ReadCell, Forward}
 use Rattle.figures.specs.declared.UpdateDeed.TheVariants.{Reads, Raises}
-use Rattle.figures.specs.declared.UpdateNext.TheVariants.{Then, Done}
+use Rattle.figures.specs.declared.UpdateNext.TheVariants.{Then}
 use Rattle.figures.specs.declared.UpdateMove.{UpdateMove}
 use Rattle.figures.specs.declared.SizePoint.{SizePoint}
 use Rattle.figures.specs.declared.SizePoint.TheVariants.{FindCurrent, FindFlag, Announce, CollectCount, CollectCell, CollectSet, LowerFlag, SumCell, FixSize}
-use Rattle.figures.specs.declared.SizeDeed.TheVariants.{Looks, Announces, Lowers}
-use Rattle.figures.specs.declared.SizeNext.TheVariants.{Goes, Sized}
+use Rattle.figures.specs.declared.SizeDeed.TheVariants.{Announces, Lowers}
+use Rattle.figures.specs.declared.SizeNext.TheVariants.{Goes}
 use Rattle.figures.specs.declared.SizeMove.{SizeMove}
 use Rattle.figures.specs.Figure4.{new_id}
 use Rattle.figures.specs.Figure6.{on_to, done, read_cell, forward, first_cell, go_to, collect_cell, collect_set, sum_cell, fix_size}

@@ -1,5 +1,5 @@
 -- Figure 6, the methods of a snapshot, one access each: forward, add, computeSize.
-use Rattle.std.specs.Prelude.{ℕ, ◌+◌, ◌-◌, ◌%◌, ◌^◌, Bool, true, false, cond, ◌||◌, List, [], ◌∷◌, eqb, ltb}
+use Rattle.std.specs.Prelude.{ℕ, ◌+◌, ◌-◌, ◌%◌, ◌^◌, Bool, cond, ◌||◌, List, [], ◌∷◌, eqb, ltb}
 use Rattle.terms.specs.declared.ThreadId.{ThreadId}
 use Rattle.terms.specs.declared.SnapshotId.{SnapshotId}
 use Rattle.terms.specs.declared.Target.{Target}
@@ -10,13 +10,11 @@ use Rattle.figures.specs.declared.Counts.{Counts}
 use Rattle.figures.specs.declared.Sight.{Sight}
 use Rattle.figures.specs.declared.UpdatePoint.{UpdatePoint}
 use Rattle.figures.specs.declared.UpdatePoint.TheVariants.{Forward}
-use Rattle.figures.specs.declared.UpdateDeed.{UpdateDeed}
 use Rattle.figures.specs.declared.UpdateDeed.TheVariants.{Reads, Forwards}
 use Rattle.figures.specs.declared.UpdateNext.TheVariants.{Then, Done}
 use Rattle.figures.specs.declared.UpdateMove.{UpdateMove}
 use Rattle.figures.specs.declared.SizePoint.{SizePoint}
 use Rattle.figures.specs.declared.SizePoint.TheVariants.{CollectCount, CollectSet, LowerFlag, SumCell, FixSize}
-use Rattle.figures.specs.declared.SizeDeed.{SizeDeed}
 use Rattle.figures.specs.declared.SizeDeed.TheVariants.{Looks, Collects, Keeps, Fixes, Shares}
 use Rattle.figures.specs.declared.SizeNext.TheVariants.{Goes, Sized}
 use Rattle.figures.specs.declared.SizeMove.{SizeMove}

@@ -4,7 +4,6 @@ use Rattle.terms.specs.declared.OpId.{OpId}
 use Rattle.figures.specs.declared.Kind.{Kind}
 use Rattle.figures.specs.declared.Kind.TheVariants.{Insertion, Deletion}
 use Rattle.figures.specs.declared.Cell.{Cell}
-use Rattle.figures.specs.declared.Node.{Node}
 use Rattle.figures.specs.declared.Content.{Content}
 use Rattle.figures.specs.declared.Content.TheVariants.{Empty, Live, Marked}
 use Rattle.figures.specs.declared.Call.{Call}

@@ -1,5 +1,5 @@
 -- Memory at the start, of a run of so many threads and keys: one count per thread, and the operation bytes.
-use Rattle.std.specs.Prelude.{ℕ, suc, ◌+◌, ◌-◌, ◌/◌, ◌%◌, Bool, true, false, cond, List, [], ◌∷◌, replicate, eqb, ltb}
+use Rattle.std.specs.Prelude.{ℕ, suc, ◌+◌, ◌-◌, ◌%◌, false, cond, List, [], ◌∷◌, replicate, ltb}
 use Rattle.std.proofs.lemmas.List.Edits.{sets}
 use Rattle.figures.specs.declared.Calculator.{Calculator}
 use Rattle.figures.specs.declared.Content.TheVariants.{Empty}

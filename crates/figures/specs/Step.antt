@@ -1,10 +1,9 @@
 -- A step of a thread: one access, or an idle step. Steps are numbered from 1; the clock tells how many were taken.
-use Rattle.std.specs.Prelude.{ℕ, Bool, true, false, cond, List, [], ◌∷◌, get_or, set, eqb, ltb}
+use Rattle.std.specs.Prelude.{ℕ, cond, List, [], ◌∷◌, get_or, set, eqb, ltb}
 use Rattle.terms.specs.declared.ThreadId.{ThreadId}
 use Rattle.terms.specs.declared.OpId.{OpId}
 use Rattle.terms.specs.declared.SnapshotId.{SnapshotId}
 use Rattle.terms.specs.declared.Target.{Target}
-use Rattle.figures.specs.declared.Cell.{Cell}
 use Rattle.figures.specs.declared.Counts.{Counts}
 use Rattle.figures.specs.declared.Calculator.{Calculator}
 use Rattle.figures.specs.declared.Sight.{Sight}
@@ -26,7 +25,6 @@ use Rattle.figures.specs.declared.Next.{Next}
 use Rattle.figures.specs.declared.Next.TheVariants.{To, Returns}
 use Rattle.figures.specs.declared.Move.{Move}
 use Rattle.figures.specs.declared.Local.{Local}
-use Rattle.figures.specs.declared.Asked.{Asked}
 use Rattle.figures.specs.declared.Outcome.{Outcome}
 use Rattle.figures.specs.declared.Look.{Look}
 use Rattle.figures.specs.declared.Change.{Change}

@@ -1,6 +1,8 @@
 // The state of a run: figure 4's classes, the slots, threads and operation records of figure 3, and what the log will need.
 // What each access does to it is defined in specs/, one file per figure; the code is in the crates `calculator` (figures 4 to 6),
 // `accesses` (figure 3) and `machine`.
+#![tactic(auto)]
+
 ghost use Rattle.std.specs.Prelude.{◌≡◌, ◌<◌, ◌%◌, replicate};
 ghost use Rattle.std.proofs.lemmas.List.Edits.{sets};
 ghost use Rattle.figures.specs.declared.Point.TheVariants.{Idle};
@@ -21,14 +23,14 @@ pub const SNAPSHOTS: usize = Machine::OPERATIONS + 1;
 // ---- Figures 4 to 6: the calculator.
 
 // INSERT and DELETE (figure 3, line 1).
-#[derive(Drop)]
+#[derive(Clone, Copy)]
 pub enum Kind {
     Insertion,
     Deletion,
 }
 
 // One counter, or one cell of a snapshot: whose, and of which kind.
-#[derive(Drop)]
+#[derive(Clone, Copy)]
 pub struct Cell {
     pub thread: ThreadId,
     pub kind: Kind,
@@ -36,7 +38,7 @@ pub struct Cell {
 
 // An insertion number and a deletion number, of one thread. Laid out as C lays it out, as a snapshot is: a caller may lend these.
 #[repr(C)]
-#[derive(Drop)]
+#[derive(Clone, Copy)]
 pub struct Counts {
     pub insertions: u32,
     pub deletions: u32,
@@ -44,7 +46,7 @@ pub struct Counts {
 
 // CountersSnapshot (figure 4, lines 48 to 51).
 #[repr(C)]
-#[derive(Drop)]
+#[derive(Clone, Copy)]
 pub struct Snapshot {
     pub cells: [Counts; THREADS],
     pub collecting: bool,
@@ -53,7 +55,7 @@ pub struct Snapshot {
 
 // What the log needs of a snapshot: the steps of its announcement, its closing and its fixing (0: not yet), and the values that its
 // winner read for its sum.
-#[derive(Drop)]
+#[derive(Clone, Copy)]
 pub struct Trace {
     pub announced: u32,
     pub closed: u32,
@@ -62,7 +64,7 @@ pub struct Trace {
 }
 
 // SizeCalculator (figure 4, lines 45 to 47), with every snapshot announced so far.
-#[derive(Drop)]
+#[derive(Clone, Copy)]
 pub struct Calculator {
     pub counters: [Counts; THREADS],
     pub current: SnapshotId,
@@ -71,7 +73,7 @@ pub struct Calculator {
 }
 
 // What one access of the calculator can see: a counter, which snapshot is current, and of a snapshot its flag, a cell, its size.
-#[derive(Drop)]
+#[derive(Clone, Copy)]
 pub struct Sight {
     pub count: u32,
     pub current: SnapshotId,
@@ -82,7 +84,7 @@ pub struct Sight {
 
 // The accesses of updateMetadata (figure 5, lines 75 to 83) and forward (figure 6, lines 95 to 103). Those after the exchange of the
 // counter know whether this call raised it.
-#[derive(Drop)]
+#[derive(Clone, Copy)]
 pub enum UpdatePoint {
     ReadCount,
     RaiseCount,
@@ -94,7 +96,7 @@ pub enum UpdatePoint {
 }
 
 // What such an access changes: nothing, the counter, or the snapshot's cell.
-#[derive(Drop)]
+#[derive(Clone, Copy)]
 pub enum UpdateDeed {
     Reads,
     Raises,
@@ -102,20 +104,20 @@ pub enum UpdateDeed {
 }
 
 // Where an update goes on, or what it reports at its end: whether this call raised the counter.
-#[derive(Drop)]
+#[derive(Clone, Copy)]
 pub enum UpdateNext {
     Then(UpdatePoint),
     Done(bool),
 }
 
-#[derive(Drop)]
+#[derive(Clone, Copy)]
 pub struct UpdateMove {
     pub next: UpdateNext,
     pub deed: UpdateDeed,
 }
 
 // The accesses of compute (figure 5, lines 57 to 74; figure 6, lines 92 to 94 and 104 to 112).
-#[derive(Drop)]
+#[derive(Clone, Copy)]
 pub enum SizePoint {
     FindCurrent,
     FindFlag(SnapshotId),
@@ -129,7 +131,7 @@ pub enum SizePoint {
 }
 
 // What such an access changes. A cell read for the sum is kept by the thread; a size that was fixed by another is shared.
-#[derive(Drop)]
+#[derive(Clone, Copy)]
 pub enum SizeDeed {
     Looks,
     Announces,
@@ -140,13 +142,13 @@ pub enum SizeDeed {
     Shares(SnapshotId),
 }
 
-#[derive(Drop)]
+#[derive(Clone, Copy)]
 pub enum SizeNext {
     Goes(SizePoint),
     Sized(u32),
 }
 
-#[derive(Drop)]
+#[derive(Clone, Copy)]
 pub struct SizeMove {
     pub next: SizeNext,
     pub deed: SizeDeed,
@@ -156,13 +158,13 @@ pub struct SizeMove {
 
 // A node's inserter, target and inserting operation; or a mark's deleter, target and deleting operation.
 // The operation's number is the identity that an exchange compares.
-#[derive(Drop)]
+#[derive(Clone, Copy)]
 pub struct Node {
     pub note: Note,
     pub op: OpId,
 }
 
-#[derive(Drop)]
+#[derive(Clone, Copy)]
 pub enum Content {
     Empty,
     Live(Node),
@@ -170,13 +172,13 @@ pub enum Content {
 }
 
 // One slot per key.
-#[derive(Drop)]
+#[derive(Clone, Copy)]
 pub struct Slot {
     pub content: Content,
 }
 
 // The kinds of operations, as the run file numbers them: 0 to 3.
-#[derive(Drop)]
+#[derive(Clone, Copy)]
 pub enum Call {
     Insert,
     Delete,
@@ -185,14 +187,14 @@ pub enum Call {
 }
 
 // The update whose metadata is brought up to date: a node's insertion, or a mark's deletion.
-#[derive(Drop)]
+#[derive(Clone, Copy)]
 pub struct Update {
     pub kind: Kind,
     pub node: Node,
 }
 
 // What follows once the metadata is up to date.
-#[derive(Drop)]
+#[derive(Clone, Copy)]
 pub enum After {
     Answer(u32),
     ToMark(Node),
@@ -201,7 +203,7 @@ pub enum After {
 }
 
 // Where a thread stands: the access that it makes next. Idle: between operations, or with none left.
-#[derive(Drop)]
+#[derive(Clone, Copy)]
 pub enum Point {
     Idle,
     ReadSlot,
@@ -216,7 +218,7 @@ pub enum Point {
 }
 
 // What an access changes of the memory, or tells the log.
-#[derive(Drop)]
+#[derive(Clone, Copy)]
 pub enum Deed {
     Rests,
     Finds(Content),
@@ -227,20 +229,20 @@ pub enum Deed {
     Sizes(SizeDeed),
 }
 
-#[derive(Drop)]
+#[derive(Clone, Copy)]
 pub enum Next {
     To(Point),
     Returns(u32),
 }
 
-#[derive(Drop)]
+#[derive(Clone, Copy)]
 pub struct Move {
     pub next: Next,
     pub deed: Deed,
 }
 
 // A thread: where it stands, its current operation, where its operations end, and the values that it has read for a sum.
-#[derive(Drop)]
+#[derive(Clone, Copy)]
 pub struct Local {
     pub point: Point,
     pub op: OpId,
@@ -249,7 +251,7 @@ pub struct Local {
 }
 
 // What an operation asks, and for which thread.
-#[derive(Drop)]
+#[derive(Clone, Copy)]
 pub struct Asked {
     pub thread: ThreadId,
     pub call: Call,
@@ -258,7 +260,7 @@ pub struct Asked {
 
 // The five numbers that are handed back: answer, first step, last step, own steps, and the thread that raised the update's counter
 // (INVALID for anything but a raised update).
-#[derive(Drop)]
+#[derive(Clone, Copy)]
 pub struct Outcome {
     pub answer: u32,
     pub first: u32,
@@ -268,7 +270,7 @@ pub struct Outcome {
 }
 
 // The last slot read: its step, and what it found.
-#[derive(Drop)]
+#[derive(Clone, Copy)]
 pub struct Look {
     pub read: u32,
     pub found: Content,
@@ -276,7 +278,7 @@ pub struct Look {
 
 // An update's target, the steps of its slot exchange and of its raising (0: not yet), and the snapshot that was being
 // collected at its raising (0: none).
-#[derive(Drop)]
+#[derive(Clone, Copy)]
 pub struct Change {
     pub target: Target,
     pub exchanged: u32,
@@ -286,7 +288,7 @@ pub struct Change {
 
 // An operation: what is asked, what is handed back, and what the log needs; `snapshot` is the one that a returned size took
 // its answer from.
-#[derive(Drop)]
+#[derive(Clone, Copy)]
 pub struct Record {
     pub asked: Asked,
     pub outcome: Outcome,
@@ -296,7 +298,7 @@ pub struct Record {
 }
 
 // A run's whole state after `clock` steps.
-#[derive(Drop)]
+#[derive(Clone, Copy)]
 pub struct Machine {
     pub threads: u8,
     pub keys: u8,
