@@ -1,6 +1,8 @@
 // The code of figure 3, the set over the calculator: one function per access, named after it. What each must yield is defined in the
 // crate `figures`. What an access asks of the counters and of the table of snapshots is told before anything is read (`request`); it is
 // told what it sees, and says where the thread goes on and what it changes (`access`).
+#![tactic(auto)]
+
 ghost use Rattle.std.specs.Prelude.{◌≡◌};
 ghost use Rattle.figures.specs.declared.After.TheVariants.{ToMark, ToHelpUnlink, ToUnlink};
 ghost use Rattle.figures.specs.declared.Next.TheVariants.{To};

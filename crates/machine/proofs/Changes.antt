@@ -13,7 +13,6 @@ use Rattle.figures.specs.declared.Update.{Update}
 use Rattle.figures.specs.declared.Deed.{Deed}
 use Rattle.figures.specs.declared.Deed.TheVariants.{Rests, Finds, Links, Marks, Unlinks, Updates, Sizes}
 use Rattle.figures.specs.declared.Next.{Next}
-use Rattle.figures.specs.declared.Record.{Record}
 use Rattle.figures.specs.declared.Machine.{Machine}
 use Rattle.figures.specs.Figure4.{raised, written, announced, lowered, fixed, window_of}
 use Rattle.figures.specs.Figure3.{cell_of}

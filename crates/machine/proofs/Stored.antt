@@ -9,7 +9,6 @@ use lib.ListN.{length, get_or, set, length-set}
 use lib.Dec.{ltb}
 use borrow.Author.Tests.{ltb-true, ltb-false}
 use Rattle.terms.specs.declared.ThreadId.{ThreadId}
-use Rattle.terms.specs.declared.OpId.{OpId}
 use Rattle.terms.specs.declared.SnapshotId.{SnapshotId}
 use Rattle.figures.specs.declared.Cell.{Cell}
 use Rattle.figures.specs.declared.Counts.{Counts}
@@ -26,7 +25,6 @@ use Rattle.figures.specs.declared.Move.{Move}
 use Rattle.figures.specs.declared.Slot.{Slot}
 use Rattle.figures.specs.declared.Local.{Local}
 use Rattle.figures.specs.declared.Record.{Record}
-use Rattle.figures.specs.declared.Machine.{Machine}
 use Rattle.figures.specs.Limits.{most_threads, most_keys, most_operations}
 use Rattle.figures.specs.Figure4.{more, both, count_of, count_at, no_snapshot, no_trace}
 use Rattle.figures.specs.Step.{no_local, no_slot, no_record, raised_at, stands_at, accessed, idled, step_of}
@@ -39,7 +37,7 @@ use Rattle.calculator.proofs.Beyond.{set_beyond, get_or_beyond}
 use Rattle.accesses.specs.Requests.{request_at}
 use Rattle.machine.specs.declared.Rest.{Rest}
 use Rattle.machine.specs.declared.Turn.{Turn}
-use Rattle.machine.specs.Parts.{turn_of, quiet, raised_op, raised_by, raised_record, held_by, recorded_by, stood_by, there_of, whole_of, local_in, own_in, held_in, is_busy, window_now, asks_of, request_of, move_in, taken_of, idled_of, decided_of}
+use Rattle.machine.specs.Parts.{turn_of, quiet, raised_op, raised_by, held_by, recorded_by, stood_by, there_of, whole_of, local_in, own_in, held_in, is_busy, window_now, asks_of, move_in, taken_of}
 use Rattle.machine.proofs.Together.{same}
 use Rattle.machine.proofs.Zeros.{zero_count, zero_cell, zero_witness}
 use Rattle.machine.proofs.Turns.{either_store, taken_steps, glanced, glanced_steps}

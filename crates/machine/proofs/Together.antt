@@ -23,7 +23,7 @@ use Rattle.figures.specs.declared.Local.{Local}
 use Rattle.figures.specs.declared.Record.{Record}
 use Rattle.figures.specs.declared.Machine.{Machine}
 use Rattle.figures.specs.Figure4.{more, window_of, block_of, set_count}
-use Rattle.figures.specs.Step.{no_record, no_slot, no_local, record_at, local_at, with_seen, answered, counted, raised_at, exchanged_at, with_look, with_used, does, goes_on, ticked}
+use Rattle.figures.specs.Step.{no_record, no_slot, no_local, record_at, with_seen, answered, counted, raised_at, exchanged_at, with_look, with_used, does, goes_on, ticked}
 use Rattle.machine.specs.Parts.{answered_by, goes_by, raised_record}
 use Rattle.machine.proofs.Changes.{acted_by}
 

@@ -1,6 +1,8 @@
 // A step of a thread and a whole schedule. What an access changes, part by part, is in parts.rt, one access over the small parts that
 // it is told of in told.rt; the arrays stay where the loop is, and each step loads a few of their elements, takes its turn and stores
 // them. What each must yield is defined in the crate `figures`.
+#![tactic(auto)]
+
 mod parts;
 pub mod told;
 
@@ -20,7 +22,7 @@ use told::{
 
 // What an access gives: its operation's record, the thread, the slot's content, the operation that it raised (255: none), and whether it
 // changed the first two alone.
-#[derive(Drop)]
+#[derive(Clone, Copy)]
 pub struct Turn {
     pub own: Record,
     pub local: Local,
@@ -30,7 +32,7 @@ pub struct Turn {
 }
 
 // A machine without its counters and its table of snapshots, which may be lent.
-#[derive(Drop)]
+#[derive(Clone, Copy)]
 pub struct Rest {
     pub threads: u8,
     pub keys: u8,

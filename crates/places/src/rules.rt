@@ -16,7 +16,7 @@ use terms::{OpId, SnapshotId, Target, ThreadId};
 
 // What an update reads of the snapshot that was being collected at its raising: the steps of its closing and of its fixing (0: not
 // yet), and the value that its winner read from the update's cell for its sum.
-#[derive(Drop)]
+#[derive(Clone, Copy)]
 pub struct Window {
     pub closed: u32,
     pub fixed: u32,

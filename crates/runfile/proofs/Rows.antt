@@ -139,6 +139,7 @@ module _ (Holds : Refusal → ℕ → Type 0) where
   none_at x t e q h = true_false (sym (t.1 q h).0 ∙ e)
 
   stops_first : (rs : List Row) {r : Refusal} {p : ℕ} → AllTell Holds rs → Stops rs r p → FirstOf Holds (names rs) r p
+  stops_first [] {r = r} {p = p} _ x3 = elim x3 [ ]
   stops_first (x ∷ rs) (t also ts) (here e) = inl (refl, t.0 e)
   stops_first (x ∷ rs) (t also ts) (later e s) = inr (none_at x t e, stops_first rs ts s)
 

@@ -10,7 +10,7 @@ use native.Mathlib.Decide.{dec_lt}
 use lib.ListN.{length, get_or}
 use lib.Dec.{ltb, eqb}
 use borrow.Author.Tests.{ltb-true, lt-ltb, le-ltb, eqb-true, eqb-false, eq-eqb, ne_eqb, not-true}
-use Rattle.figures.specs.Codec.{allowed, fault_of}
+use Rattle.figures.specs.Codec.{fault_of}
 use Rattle.runfile.specs.Rows.{Row, decide, outside, first_bad_in, sum_to, Passes, Stops}
 use Rattle.runfile.specs.Layout.{entry_at, body_at, offset_in, count_in, count_of, operation_right, step_right}
 use Rattle.runfile.specs.Read.{threads_in, keys_in, steps_in, schedule_in, offset_right, wrong_operation, rows, running_rows, refused, accepted, read_of}

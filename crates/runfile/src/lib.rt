@@ -1,4 +1,6 @@
 // The run file (document 01): reading it and writing it, by one layout.
+#![tactic(auto)]
+
 ghost use Rattle.std.specs.Prelude.{◌≡◌, [], ◌∷◌, ◌++◌, ◌+◌, ◌-◌, ◌*◌, ◌/◌, ◌%◌, ◌≤◌, ◌<◌, length, replicate};
 ghost use Rattle.std.proofs.lemmas.List.Edits.{sets};
 ghost use Rattle.figures.specs.Limits.{most_threads, most_operations, most_steps};
@@ -12,7 +14,7 @@ ghost use Rattle.runfile.specs.Write.{disagree, unwritten, written, writer_body_
 use figures::Machine;
 
 // The rows of the table of refusals, by name. What each asks and in which order they are tried, specs/Read.antt and specs/Write.antt say.
-#[derive(Drop)]
+#[derive(Clone, Copy)]
 pub enum Refusal {
     NoHead,
     Threads,
@@ -59,7 +61,7 @@ const HEADER: usize = 2;
 
 const ENTRY: usize = 4;
 
-// One byte more than any accepted file has: a longer input is told from that many of its bytes (`Kept-same` of proofs/Bounded.antt).
+// One byte more than any accepted file has: a longer input is told from that many of its bytes (`kept_same` of proofs/Bounded.antt).
 pub const KEPT: usize = HEADER
     + ENTRY * (Machine::THREADS as usize + 1)
     + Machine::OPERATIONS
@@ -67,7 +69,7 @@ pub const KEPT: usize = HEADER
     + 1;
 
 // What reading answers: number 0 where the file is accepted, else the refusal's number and place, and every other number 0.
-#[derive(Drop)]
+#[derive(Clone, Copy)]
 pub struct Reading {
     pub number: u32,
     pub place: usize,
@@ -81,7 +83,7 @@ pub struct Reading {
 }
 
 // What writing answers: number 0 and the file's length, or the refusal's number and place, and length 0.
-#[derive(Drop)]
+#[derive(Clone, Copy)]
 pub struct Writing {
     pub number: u32,
     pub place: usize,
