@@ -1,4 +1,7 @@
-// What other languages call: reading, writing and running. A slice is a pointer and a count there, a structure is C's.
+// What other languages call: reading, writing and running. A slice is a pointer and a count there, a structure is C's. The crate `face_c`
+// exports these functions under their names.
+#![tactic(auto)]
+
 ghost use Rattle.std.specs.Prelude.{◌≡◌, length};
 ghost use Rattle.std.proofs.lemmas.List.Edits.{sets};
 ghost use Rattle.runfile.specs.Read.{read_of};
@@ -10,7 +13,7 @@ use figures::Machine;
 
 // As runfile's Reading, laid out as C lays it out.
 #[repr(C)]
-#[derive(Drop)]
+#[derive(Clone, Copy)]
 pub struct ReadAnswer {
     pub number: u32,
     pub place: usize,
@@ -25,15 +28,14 @@ pub struct ReadAnswer {
 
 // As runfile's Writing.
 #[repr(C)]
-#[derive(Drop)]
+#[derive(Clone, Copy)]
 pub struct WriteAnswer {
     pub number: u32,
     pub place: usize,
     pub length: usize,
 }
 
-#[unsafe(no_mangle)]
-pub extern "C" fn pszenorad_read(file: &[u8]) -> ReadAnswer
+pub fn pszenorad_read(file: &[u8]) -> ReadAnswer
     ensures { result ≡ told_of_reading (read_of file.now) }
 {
     let r = runfile::read(file);
@@ -51,8 +53,7 @@ pub extern "C" fn pszenorad_read(file: &[u8]) -> ReadAnswer
     }
 }
 
-#[unsafe(no_mangle)]
-pub extern "C" fn pszenorad_write(
+pub fn pszenorad_write(
     threads: u8,
     keys: u8,
     counts: &[u16],
@@ -75,7 +76,7 @@ pub extern "C" fn pszenorad_write(
 
 // As play's Told.
 #[repr(C)]
-#[derive(Drop)]
+#[derive(Clone, Copy)]
 pub struct RunAnswer {
     pub number: u32,
     pub place: usize,
@@ -84,8 +85,7 @@ pub struct RunAnswer {
     pub snapshots: u32,
 }
 
-#[unsafe(no_mangle)]
-pub extern "C" fn pszenorad_run(file: &[u8], results: &mut [u32], log: &mut [u32]) -> RunAnswer
+pub fn pszenorad_run(file: &[u8], results: &mut [u32], log: &mut [u32]) -> RunAnswer
     ensures value { result ≡ told_of_run (told_of file.now (length results.old) (length log.old)) }
     ensures results_after { results.new ≡ sets results.old 0
         (when (number_of file.now (length results.old) (length log.old)) (results_of file.now)) }

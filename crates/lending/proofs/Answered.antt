@@ -6,7 +6,7 @@
 -- It says nothing of the crate.
 use mathlib.Core.List.{List, [], ◌∷◌}
 use seplogic.Ra.Ura.{Ura}
-use mir.Syntax.{Name, Place, Opd as Operand, Body, seq, call}
+use mir.Syntax.{Callee, Place, Opd as Operand, Body, seq, call}
 use mir.Val.{Val}
 use base.Logic.{ent, id⊢}
 use prog.Wp.{Env, Calls, Loops}
@@ -52,12 +52,12 @@ module _ {M : Type 1} {𝓤 : Ura M} (𝓛 : Logic 𝓤) (T : Ended) (c : Clause
         let κs = y.0.0 in
         let a = y.0.3 in
         let R = type_at T.signature.result κs in
-        use1 𝓛 (later (some (λ (r : Result). (raw (alive 𝓛 T.signature κs y.0.1) ⊛ ‵ (R.own r (w ∷ []))) ⊛ raw (ensured 𝓛 T c κs a y.1 r)))) (id⊢ 𝓤 _) $ await t (soaks w) $ pick t (λ r.
+        use1 𝓛 (later (some (λ (r : Result). (raw (alive 𝓛 T.signature κs y.0.1) ⊛ ‵ (R.own_val r (w ∷ []))) ⊛ raw (ensured 𝓛 T c κs a y.1 r)))) (id⊢ 𝓤 _) $ await t (soaks w) $ pick t (λ r.
         split t $ move t (1 ∷ []) $ use1 𝓛 (some (λ (ws : Ends). ‵ (lasts T κs a ws) ⊛ raw ((c κs a).ensures y.1 r (at_exit T κs a ws)))) (id⊢ 𝓤 _) $ pick t (λ ws.
         split t $ move t (1 ∷ []) $ use1 𝓛 (raw (fact 𝓤 (φ r ws))) (says r ws) $ heard t (φ r ws) (λ said.
         move t (1 ∷ []) $ split t $ move t (1 ∷ []) $ facts t R (Is R) (shows 𝓛 R) r (w ∷ []) (λ is. move t (1 ∷ 0 ∷ []) $ k w r ws said is))))
 
-module _ {M : Type 1} {𝓤 : Ura M} {𝓛 : Logic 𝓤} {K : Type 0} {Γ : List (Item 𝓤)} {E : Env 𝓤 𝓛.H} {C : Calls 𝓤 𝓛.H} {f : Name} {xs : List Operand} {Λ : Loops 𝓤 𝓛.H} {q : Post 𝓤 𝓛.H} {d : Place} where
+module _ {M : Type 1} {𝓤 : Ura M} {𝓛 : Logic 𝓤} {K : Type 0} {Γ : List (Item 𝓤)} {E : Env 𝓤 𝓛.H} {C : Calls 𝓤 𝓛.H} {f : Callee} {xs : List Operand} {Λ : Loops 𝓤 𝓛.H} {q : Post 𝓤 𝓛.H} {d : Place} where
   open 𝓛 use {H}
 
   pub changes : K → FmC 𝓤 H 𝓛.laws C → {rest : Body} (T : Ended) (c : Clauses 𝓤 T) → Triple 𝓤 (C f) (Met 𝓛 T c) → (y : (Met 𝓛 T c).Ghost) (φ : Result 𝓛 T c y → Ends 𝓛 T c y → Type 0) → Says 𝓛 T c y φ

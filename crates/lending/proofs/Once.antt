@@ -1,4 +1,4 @@
--- Uniqueness of what a contract promises, for functions whose proofs are walks: what their clauses ensure is said over a model. Ensured of two
+-- Uniqueness of what a contract promises, said of its clauses, over a model. Ensured of two
 -- answers and of two last values of what was lent, it says that the answers are equal and the last values are.
 use mathlib.Core.Path.{◌≡◌}
 use seplogic.Ra.Ura.{Ura}

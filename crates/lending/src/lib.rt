@@ -1,6 +1,7 @@
 // Lent memory: the block of counters, and a slice of snapshot records. Each function here makes one access: it loads one part, calls
-// a function by value of the crate `calculator`, and stores what it gives. The proofs of `count`, `raise`, `read`, `exchange` and
-// `perform` are walks of their code, statement by statement.
+// a function by value of the crate `calculator`, and stores what it gives.
+#![tactic(auto)]
+
 ghost use Rattle.std.specs.Prelude.{◌≡◌, cond};
 ghost use Rattle.figures.specs.Figure4.{count_at};
 ghost use Rattle.calculator.specs.Exchanges.{absent, raised_in, witnessed_of};

@@ -1,11 +1,11 @@
 -- A run over a lent table: it leaves the announced records there and the rest as lent, and all else of the machine is as without it;
 -- and the machine's own table is found again from the announced records.
 use Prim.Native.Nat.{ℕ, suc, ◌≤◌, ◌<◌}
-use mathlib.Core.Path.{◌≡◌, refl, sym, ap, ◌∙◌, subst}
+use mathlib.Core.Path.{◌≡◌, refl, ap, ◌∙◌, subst}
 use mathlib.Core.Bool.{false}
 use mathlib.Core.List.{List, [], ◌∷◌, ◌++◌}
 use native.Mathlib.Omega.{arith}
-use lib.ListN.{length, set, take, replicate, length-set, length-replicate}
+use lib.ListN.{length, set, replicate, length-set, length-replicate}
 use lib.Seq.{sets, get_or-set_same, get_or-set_other}
 use Rattle.terms.specs.declared.ThreadId.{ThreadId}
 use Rattle.figures.specs.declared.Snapshot.{Snapshot}

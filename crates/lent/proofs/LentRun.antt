@@ -1,5 +1,5 @@
 -- A run over a lent table hands back what it must, from what each of its parts tells: the opening, the run, and what is handed back.
-use Prim.Native.Nat.{ℕ, zero, suc, ◌+◌, ◌-◌, ◌<◌}
+use Prim.Native.Nat.{ℕ, zero, suc, ◌+◌, ◌<◌}
 use mathlib.Core.Path.{◌≡◌, refl, sym, ap, subst, ◌∙◌}
 use mathlib.Core.Bool.{Bool, true, false, not, cond}
 use mathlib.Core.Logic.{◌≢◌}
@@ -23,12 +23,12 @@ use Rattle.places.specs.Written.{numbers_of, held_of}
 use Rattle.runfile.specs.Read.{read_of}
 use Rattle.runfile.proofs.Accepts.{accepts}
 use Rattle.play.specs.declared.Told.{Told}
-use Rattle.play.specs.Run.{operations_of, schedule_of, machine_of, count_of, fours_of, results_of, entries_of, number_of, told_of, too_small, refused, ran, when, lack_number, handed_told}
+use Rattle.play.specs.Run.{operations_of, schedule_of, machine_of, fours_of, results_of, entries_of, number_of, told_of, too_small, refused, ran, when, lack_number, handed_told}
 use Rattle.play.proofs.Accepted.{within, demand_held}
 use Rattle.play.proofs.Decided.{unwritten, is_written, hands_file}
 use Rattle.history.proofs.Split.{or_false}
 use Rattle.lent.specs.declared.Opened.{Opened}
-use Rattle.lent.specs.Table.{with_table, announced_in, sizes_of}
+use Rattle.lent.specs.Table.{with_table, sizes_of}
 use Rattle.lent.specs.Runs.{lent_small, lent_number, lent_told, records_of, opened_of, ran_over}
 use Rattle.lent.proofs.Agree.{lent_run}
 use Rattle.lent.proofs.Openings.{no_place}

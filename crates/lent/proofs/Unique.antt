@@ -16,8 +16,7 @@ use contract.Monad.{Fun, fact}
 use Rattle.terms.proofs.Once.{once}
 use Rattle.figures.specs.declared.Snapshot.{Snapshot}
 use Rattle.figures.specs.declared.Machine.{Machine}
-use Rattle.machine.specs.declared.Rest.{Rest}
-use Rattle.machine.specs.Parts.{whole_of, rest_of}
+use Rattle.machine.specs.Parts.{rest_of}
 use Rattle.runfile.specs.Read.{read_of}
 use Rattle.play.specs.declared.Told.{Told}
 use Rattle.play.specs.Run.{results_of, entries_of, number_of, told_of, refused, ran, when}

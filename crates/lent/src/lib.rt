@@ -1,5 +1,7 @@
 // A step, a schedule and a run over counters and a table of snapshots that are lent. All that a step or a run decides is by value
 // (`machine::asked`, `machine::decided`, `opening`); the functions with the lent memory hand it on to the one access that a step makes (`lending::perform`).
+#![tactic(auto)]
+
 ghost use Rattle.std.specs.Prelude.{◌≡◌, true, false, cond, not, ◌||◌, ◌+◌, eqb, ltb, drop, length};
 ghost use Rattle.std.proofs.lemmas.List.Edits.{sets};
 ghost use Rattle.figures.specs.Step.{step_of, run_of};
@@ -69,7 +71,7 @@ pub fn run_over(table: &mut [Snapshot], m: Rest, file: &[u8], from: usize) -> Re
 
 // A run before its first step: the number that refuses it or 0, and its place; how many operations; the byte at which the steps begin;
 // and the machine without its counters and its table.
-#[derive(Drop)]
+#[derive(Clone, Copy)]
 pub struct Opened {
     pub number: u32,
     pub place: usize,
@@ -172,8 +174,7 @@ fn operations_in(o: Opened) -> usize
 
 // Reads a file, plays it over the lent table and hands it back. After a run the table holds the announced records, and the others as
 // lent; a refusal touches neither results nor log nor table. What is handed back meets demand 3.
-#[unsafe(no_mangle)]
-pub extern "C" fn pszenorad_run_lent(
+pub fn pszenorad_run_lent(
     file: &[u8],
     results: &mut [u32],
     log: &mut [u32],

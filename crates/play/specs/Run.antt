@@ -1,13 +1,11 @@
 -- "What a run hands back": of a file, and of the room that is lent for results and log.
-use Rattle.std.specs.Prelude.{ℕ, ◌+◌, ◌*◌, Bool, true, false, cond, ◌||◌, List, [], ◌∷◌, length, take, drop, eqb, ltb}
-use Rattle.figures.specs.declared.Outcome.{Outcome}
+use Rattle.std.specs.Prelude.{ℕ, ◌*◌, Bool, cond, ◌||◌, List, [], ◌∷◌, length, take, drop, eqb, ltb}
 use Rattle.figures.specs.declared.Record.{Record}
 use Rattle.figures.specs.declared.Machine.{Machine}
 use Rattle.figures.specs.Start.{start_of}
 use Rattle.figures.specs.Step.{run_of}
 use Rattle.figures.specs.Places.{log_of}
 use Rattle.places.specs.Written.{per_entry, numbers_of, held_of}
-use Rattle.runfile.specs.declared.Reading.{Reading}
 use Rattle.runfile.specs.Read.{read_of}
 use Rattle.play.specs.declared.Told.{Told}
 

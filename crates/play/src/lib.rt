@@ -1,4 +1,6 @@
 // A run handed back: a file is read, played and told. What it must yield is defined in specs/Run.antt.
+#![tactic(auto)]
+
 ghost use Rattle.std.specs.Prelude.{◌≡◌, [], ◌*◌, ◌≤◌, length, take};
 ghost use Rattle.std.proofs.lemmas.List.Edits.{sets};
 ghost use Rattle.figures.specs.Limits.{most_operations};
@@ -22,7 +24,7 @@ pub const PER_OPERATION: usize = 5;
 // Number 0 where the run was played: log entries, idle steps, snapshots announced. Else the refusal's number and place, and
 // every other number 0.
 #[repr(C)]
-#[derive(Drop)]
+#[derive(Clone, Copy)]
 pub struct Told {
     pub number: u32,
     pub place: usize,
