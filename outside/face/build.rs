@@ -1,4 +1,4 @@
-//! Finds the static libraries that `rt staticlib face` and `rt staticlib lent` write: in the folder named by PSZENORAD_LIB, else in the
+//! Finds the static libraries that `outside/build` writes: in the folder named by PSZENORAD_LIB, else in the
 //! repository's target.
 
 use std::path::PathBuf;
@@ -14,7 +14,7 @@ fn main() {
     for name in ["face", "lent"] {
         let library = folder.join(format!("lib{name}.a"));
         if !library.is_file() {
-            println!("cargo:warning={} is missing: run `rt staticlib {name}`", library.display());
+            println!("cargo:warning={} is missing: run `outside/build`", library.display());
         }
         println!("cargo:rerun-if-changed={}", library.display());
         println!("cargo:rustc-link-lib=static={name}");

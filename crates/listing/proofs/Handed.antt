@@ -9,7 +9,7 @@ use lib.Dec.{eqb}
 use Rattle.history.proofs.Split.{same?}
 use Rattle.history.proofs.Order.{log_fits}
 use Rattle.figures.specs.Limits.{most_operations}
-use Rattle.figures.specs.Places.{listed, order_of, ordered_of, log_of}
+use Rattle.figures.specs.Places.{listed, order_of, log_of}
 use Rattle.runfile.specs.Read.{read_of}
 use Rattle.runfile.proofs.Accepts.{accepts}
 use Rattle.play.specs.declared.Told.{Told}

@@ -1,18 +1,13 @@
 // Prints the listing of the run file on standard input, or its refusal.
-ghost use Rattle.std.specs.Prelude.{◌≡◌, ◌+◌, length};
+#![tactic(auto)]
+
+ghost use Rattle.std.specs.Prelude.{◌≡◌, ◌+◌, ◌≤◌, length, IfOk};
 ghost use Rattle.runfile.specs.Contents.{longest};
-ghost use Rattle.io.specs.Counts.{IsPrefixLen};
 
-use libc::{STDIN_FILENO, STDOUT_FILENO};
+use std::io;
+use std::io::Read;
 
-// What reading came to: whether no read failed, and how many bytes are kept.
-#[derive(Drop)]
-struct Kept {
-    readable: bool,
-    bytes: usize,
-}
-
-// One byte more than any accepted file has: a longer input is told from these (`Kept-same` of the crate `runfile`).
+// One byte more than any accepted file has: a longer input is told from these (`kept_same` of the crate `runfile`).
 // Made here, so that no proof looks into so long a list.
 fn room() -> [u8; runfile::KEPT]
     ensures { longest + 1 ≡ length result }
@@ -20,63 +15,44 @@ fn room() -> [u8; runfile::KEPT]
     [0; runfile::KEPT]
 }
 
-// Reads until the room is full or the input ends.
-fn read_kept(room: &mut [u8]) -> Kept
-    ensures { IsPrefixLen result.bytes room.new }
+// Reads until the room is full or the input ends, and answers how many bytes are kept.
+fn read_kept<R: Read>(input: &mut R, room: &mut [u8]) -> io::Result<usize>
+    ensures { IfOk result (λ n. n ≤ length room.new) }
 {
     let mut bytes: usize = 0;
     while bytes < room.len() {
-        let got = libc::read(STDIN_FILENO, &mut room[bytes..]);
-        if got < 0 {
-            return Kept {
-                readable: false,
-                bytes,
-            };
-        }
-        let more = io::count(got, &room[bytes..]);
+        let more = input.read(&mut room[bytes..])?;
         if more == 0 {
             break;
         }
         bytes += more;
     }
-    Kept {
-        readable: true,
-        bytes,
-    }
+    Ok(bytes)
 }
 
 // Reads once and keeps nothing.
-fn skip_some() -> isize {
-    let mut rest = io::large_buffer();
-    libc::read(STDIN_FILENO, &mut rest)
+fn skip_some<R: Read>(input: &mut R) -> io::Result<usize> {
+    let mut rest = [0u8; 65536];
+    input.read(&mut rest)
 }
 
-// Reads on to the end, so that whoever writes the input is not stopped by a closed pipe. Answers whether no read failed.
-// A proved loop has to end, and nothing says that an input does. So the loop counts its turns down, from a number that no run
-// uses up.
-fn skip_rest() -> bool {
-    let mut turns = u64::MAX;
-    while turns > 0 {
-        let got = skip_some();
-        if got <= 0 {
-            return got == 0;
+// Reads on to the end, so that whoever writes the input is not stopped by a closed pipe.
+// A proved loop has to end, and nothing says that an input does. So the loop counts its turns, up to a number that no run reaches.
+fn skip_rest<R: Read>(input: &mut R) -> io::Result<()> {
+    for _ in 0..u64::MAX {
+        if skip_some(input)? == 0 {
+            break;
         }
-        turns -= 1;
     }
-    true
+    Ok(())
 }
 
-fn main() {
+fn main(rt: HostRuntime) -> io::Result<()> {
+    let mut input = rt.reader();
     let mut buf = room();
-    let kept = read_kept(&mut buf);
-    let bytes = kept.bytes;
-    if !kept.readable {
-        os::fail(b"standard input");
-        return;
+    let bytes = read_kept(&mut input, &mut buf)?;
+    if bytes == buf.len() {
+        skip_rest(&mut input)?;
     }
-    if bytes == buf.len() && !skip_rest() {
-        os::fail(b"standard input");
-        return;
-    }
-    listing::print_run(STDOUT_FILENO, &buf[..bytes]);
+    listing::print_run(&mut io::writer(&rt), &buf[..bytes])
 }

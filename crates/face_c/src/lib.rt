@@ -1,0 +1,46 @@
+// The exports of the crate `face`: each calls the function of its name there and states its clauses again.
+#![tactic(auto)]
+
+ghost use Rattle.std.specs.Prelude.{◌≡◌, length};
+ghost use Rattle.std.proofs.lemmas.List.Edits.{sets};
+ghost use Rattle.runfile.specs.Read.{read_of};
+ghost use Rattle.runfile.specs.Write.{write_of, written_of};
+ghost use Rattle.play.specs.Run.{told_of, number_of, when, results_of, entries_of};
+ghost use Rattle.face.specs.Answers.{told_of_reading, told_of_writing, told_of_run};
+
+use face::{ReadAnswer, RunAnswer, WriteAnswer};
+
+#[unsafe(no_mangle)]
+pub extern "C" fn pszenorad_read(file: &[u8]) -> ReadAnswer
+    ensures { result ≡ told_of_reading (read_of file.now) }
+{
+    face::pszenorad_read(file)
+}
+
+#[unsafe(no_mangle)]
+pub extern "C" fn pszenorad_write(
+    threads: u8,
+    keys: u8,
+    counts: &[u16],
+    operations: &[u8],
+    schedule: &[u8],
+    out: &mut [u8],
+) -> WriteAnswer
+    ensures value { result ≡ told_of_writing
+        (write_of threads keys counts.now operations.now schedule.now (length out.old)) }
+    ensures out_after { out.new ≡ sets out.old 0
+        (written_of threads keys counts.now operations.now schedule.now (length out.old)) }
+{
+    face::pszenorad_write(threads, keys, counts, operations, schedule, out)
+}
+
+#[unsafe(no_mangle)]
+pub extern "C" fn pszenorad_run(file: &[u8], results: &mut [u32], log: &mut [u32]) -> RunAnswer
+    ensures value { result ≡ told_of_run (told_of file.now (length results.old) (length log.old)) }
+    ensures results_after { results.new ≡ sets results.old 0
+        (when (number_of file.now (length results.old) (length log.old)) (results_of file.now)) }
+    ensures log_after { log.new ≡ sets log.old 0
+        (when (number_of file.now (length results.old) (length log.old)) (entries_of file.now)) }
+{
+    face::pszenorad_run(file, results, log)
+}
