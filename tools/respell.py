@@ -55,6 +55,8 @@ def read(f):
 
 
 def main(root):
+    if os.path.exists(os.path.join(root, "docs", "PORT.md")):
+        sys.exit("respell: docs/PORT.md tells that this was done; today's names of goals would not survive it")
     defined, lemmas = collections.Counter(), set()
     imported = set()
     own = {os.path.basename(d) for d in glob.glob(os.path.join(root, "crates", "*"))}
@@ -114,8 +116,6 @@ def main(root):
             with open(f, "w", encoding="utf-8") as it:
                 it.write(made)
     print(f"respell: {len(turned)} names")
-    with open("/tmp/respelled.txt", "w") as it:
-        it.writelines(f"{a} {b}\n" for a, b in sorted(turned.items()))
 
 
 def turn(line, turned, f):
