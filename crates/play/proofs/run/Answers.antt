@@ -8,35 +8,19 @@ use Rattle.play.proofs.Accepted.{demand_held}
 use Rattle.play.proofs.Decided.{hands_file}
 use Rattle.play.proofs.run.Goals as goal
 
-pub returns-clause-value : goal.returns-clause-value
-returns-clause-value c =
+pub returns : goal.returns
+returns c =
     let f = c.args.file.now in
     let e = c.read-r.ensures in
     let z : (read_of f).number ≡ 0 = ap (λ (r : Reading). r.number) (sym e) ∙ c.if-r-ne0.false in
     let m = c.played in
     let is : whole_of c.rest_of.result m.result.calculator.counters m.result.calculator.snapshots ≡ machine_of f =
     ap (λ (x : Rest). whole_of x m.result.calculator.counters m.result.calculator.snapshots) c.rest_of.ensures ∙ m.ensures in
-    c.hand_back.ensures.value ∙ (hands_file f (length c.args.results.now) (length c.args.log.now) z is (ap (λ (r : Reading). r.operations) e)).told
-
-pub returns-clause-results_after : goal.returns-clause-results_after
-returns-clause-results_after c =
-    let f = c.args.file.now in
-    let e = c.read-r.ensures in
-    let z : (read_of f).number ≡ 0 = ap (λ (r : Reading). r.number) (sym e) ∙ c.if-r-ne0.false in
-    let m = c.played in
-    let is : whole_of c.rest_of.result m.result.calculator.counters m.result.calculator.snapshots ≡ machine_of f =
-    ap (λ (x : Rest). whole_of x m.result.calculator.counters m.result.calculator.snapshots) c.rest_of.ensures ∙ m.ensures in
-    c.hand_back.ensures.results_after ∙ (hands_file f (length c.args.results.now) (length c.args.log.now) z is (ap (λ (r : Reading). r.operations) e)).in_results c.args.results.now
-
-pub returns-clause-log_after : goal.returns-clause-log_after
-returns-clause-log_after c =
-    let f = c.args.file.now in
-    let e = c.read-r.ensures in
-    let z : (read_of f).number ≡ 0 = ap (λ (r : Reading). r.number) (sym e) ∙ c.if-r-ne0.false in
-    let m = c.played in
-    let is : whole_of c.rest_of.result m.result.calculator.counters m.result.calculator.snapshots ≡ machine_of f =
-    ap (λ (x : Rest). whole_of x m.result.calculator.counters m.result.calculator.snapshots) c.rest_of.ensures ∙ m.ensures in
-    c.hand_back.ensures.log_after ∙ (hands_file f (length c.args.results.now) (length c.args.log.now) z is (ap (λ (r : Reading). r.operations) e)).in_log c.args.log.now
-
-pub returns-clause-meets : goal.returns-clause-meets
-returns-clause-meets c y = demand_held c.args.file.now (ap (λ (r : Reading). r.number) (sym c.read-r.ensures) ∙ c.if-r-ne0.false)
+    let h = c.hand_back.ensures in
+    let k = hands_file f (length c.args.results.now) (length c.args.log.now) z is (ap (λ (r : Reading). r.operations) e) in
+    record {
+      value = h.value ∙ k.told;
+      results_after = h.results_after ∙ k.in_results c.args.results.now;
+      log_after = h.log_after ∙ k.in_log c.args.log.now;
+      meets = λ y. demand_held f z;
+    }
