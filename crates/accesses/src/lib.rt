@@ -3,24 +3,22 @@
 // told what it sees, and says where the thread goes on and what it changes (`access`).
 #![tactic(auto)]
 
-ghost use Rattle.std.specs.Prelude.{◌≡◌};
-ghost use Rattle.figures.specs.declared.After.TheVariants.{ToMark, ToHelpUnlink, ToUnlink};
-ghost use Rattle.figures.specs.declared.Next.TheVariants.{To};
+ghost use Rattle.std.specs.Prelude.{◌≡◌, if◌then◌else◌};
+ghost use Rattle.figures.specs.declared.Deed.TheVariants.{Rests, Unlinks};
 ghost use Rattle.figures.specs.Figure3.{insertion, deletion, node_of, is_live, is_marked, goes_to, contains_found, insert_found, delete_found, found, read_slot, count_insertions, link, help_unlink, count_deletions, mark, unlink, afterwards, update_next, updating, size_next, sizing, entry, cell_of};
 ghost use Rattle.figures.specs.Step.{stands_at, access_of};
 ghost use Rattle.calculator.specs.declared.request.Request.TheVariants.{Count};
-ghost use Rattle.calculator.specs.Requests.{update_request};
 ghost use Rattle.accesses.specs.Requests.{request_at};
 
-use calculator::figure4::{THREADS, one_more};
 use calculator::figure5::{size, update};
 use calculator::request::{Request, size_request, update_request};
 use figures::{
     After, Call, Cell, Content, Counts, Deed, Kind, Move, Next, Node, Point, Sight, SizeNext,
-    SizePoint, Update, UpdateNext, UpdatePoint,
+    SizePoint, THREADS, Update, UpdateNext, UpdatePoint,
 };
 use terms::{Note, OpId, SnapshotId, Target, ThreadId};
 
+// stays: two functions of one shape, for two definitions: `updated(Kind::Deletion, d)` is no plainer than `deletion(d)`
 fn insertion(n: Node) -> Update
     ensures { result ≡ insertion n }
 {
@@ -48,56 +46,36 @@ fn node_of(t: ThreadId, c: Target, o: OpId) -> Node
     }
 }
 
-fn to(p: Point) -> Next
-    ensures { result ≡ To p }
-{
-    Next::To(p)
-}
-
 // Update metadata, and then what follows.
 fn update_then(u: Update, a: After) -> Next
     ensures { result ≡ Rattle.figures.specs.Figure3.update u a }
 {
-    to(Point::Updating(UpdatePoint::ReadCount, u, a))
+    Next::To(Point::Updating(UpdatePoint::ReadCount, u, a))
 }
 
 fn is_live(n: Node, c: Content) -> bool
     ensures { result ≡ is_live n c }
 {
-    match c {
-        Content::Empty => false,
-        Content::Live(a) => a.op.0 == n.op.0,
-        Content::Marked(_, _) => false,
-    }
+    matches!(c, Content::Live(a) if a.op == n.op)
 }
 
 fn is_marked(n: Node, d: Node, c: Content) -> bool
     ensures { result ≡ is_marked n d c }
 {
-    match c {
-        Content::Empty => false,
-        Content::Live(_) => false,
-        Content::Marked(a, b) => if a.op.0 == n.op.0 {
-            b.op.0 == d.op.0
-        } else {
-            false
-        },
-    }
-}
-
-fn moves(x: Next, d: Deed) -> Move
-    ensures { result ≡ record { next = x; deed = d } }
-{
-    Move { next: x, deed: d }
+    matches!(c, Content::Marked(a, b) if a.op == n.op && b.op == d.op)
 }
 
 fn goes_to(p: Point) -> Move
     ensures { result ≡ goes_to p }
 {
-    moves(to(p), Deed::Rests)
+    Move {
+        next: Next::To(p),
+        deed: Deed::Rests,
+    }
 }
 
 // Contains, lines 7 to 14.
+// stays: a function for each operation of the figure, though all three match alike: they differ in what follows, arm by arm
 fn contains_found(c: Content) -> Next
     ensures { result ≡ contains_found c }
 {
@@ -108,37 +86,16 @@ fn contains_found(c: Content) -> Next
     }
 }
 
-// Lines 21 and 42: the deletion is raised before the marked node may be unlinked, so that no update is lost with it.
-fn raise_then_help(n: Node, d: Node) -> Next
-    ensures { result ≡ Rattle.figures.specs.Figure3.update (deletion d) (ToHelpUnlink n d) }
-{
-    let u = Update {
-        kind: Kind::Deletion,
-        node: d,
-    };
-    update_then(u, After::ToHelpUnlink(n, d))
-}
-
 // Insert, lines 16 to 22.
 fn insert_found(c: Content) -> Next
     ensures { result ≡ insert_found c }
 {
     match c {
-        Content::Empty => to(Point::CountInsertions),
+        Content::Empty => Next::To(Point::CountInsertions),
         Content::Live(n) => update_then(insertion(n), After::Answer(0)),
-        Content::Marked(n, d) => raise_then_help(n, d),
+        // Lines 21 and 42: the deletion is raised before the marked node may be unlinked, so that no update is lost with it.
+        Content::Marked(n, d) => update_then(deletion(d), After::ToHelpUnlink(n, d)),
     }
-}
-
-// Lines 34 and 36: the insertion is helped before the node may be marked, so that no size counts a deletion without it.
-fn help_then_mark(n: Node) -> Next
-    ensures { result ≡ Rattle.figures.specs.Figure3.update (insertion n) (ToMark n) }
-{
-    let u = Update {
-        kind: Kind::Insertion,
-        node: n,
-    };
-    update_then(u, After::ToMark(n))
 }
 
 // Delete, lines 29 to 34.
@@ -147,7 +104,8 @@ fn delete_found(c: Content) -> Next
 {
     match c {
         Content::Empty => Next::Returns(0),
-        Content::Live(n) => help_then_mark(n),
+        // Lines 34 and 36: the insertion is helped before the node may be marked, so that no size counts a deletion without it.
+        Content::Live(n) => update_then(insertion(n), After::ToMark(n)),
         Content::Marked(_, d) => update_then(deletion(d), After::Answer(0)),
     }
 }
@@ -168,15 +126,17 @@ fn found(k: Call, c: Content) -> Next
 fn read_slot(k: Call, c: Content) -> Move
     ensures { result ≡ read_slot k c }
 {
-    let n = found(k, c);
-    moves(n, Deed::Finds(c))
+    Move {
+        next: found(k, c),
+        deed: Deed::Finds(c),
+    }
 }
 
 // Lines 22 and 85: read own insertion counter; the target is that plus 1.
 fn count_insertions(s: Sight) -> Move
     ensures { result ≡ count_insertions s }
 {
-    goes_to(Point::Link(Target(one_more(s.count))))
+    goes_to(Point::Link(Target(s.count.wrapping_add(1))))
 }
 
 // Line 25: exchange empty for the new live node. On failure, read again. On success, update, true.
@@ -185,12 +145,22 @@ fn link(t: ThreadId, o: OpId, c: Target, held: Content) -> Move
 {
     let n = node_of(t, c, o);
     match held {
-        Content::Empty => {
-            let x = update_then(insertion(n), After::Answer(1));
-            moves(x, Deed::Links(n))
-        }
-        Content::Live(_) => goes_to(Point::ReadSlot),
-        Content::Marked(_, _) => goes_to(Point::ReadSlot),
+        Content::Empty => Move {
+            next: update_then(insertion(n), After::Answer(1)),
+            deed: Deed::Links(n),
+        },
+        Content::Live(_) | Content::Marked(_, _) => goes_to(Point::ReadSlot),
+    }
+}
+
+// Exchange the marked node for empty, if it is there.
+fn unlinks(n: Node, d: Node, c: Content) -> Deed
+    ensures { result ≡ (if is_marked n d c then Unlinks else Rests) }
+{
+    if is_marked(n, d, c) {
+        Deed::Unlinks
+    } else {
+        Deed::Rests
     }
 }
 
@@ -198,10 +168,9 @@ fn link(t: ThreadId, o: OpId, c: Target, held: Content) -> Move
 fn help_unlink(n: Node, d: Node, c: Content) -> Move
     ensures { result ≡ help_unlink n d c }
 {
-    if is_marked(n, d, c) {
-        moves(to(Point::ReadSlot), Deed::Unlinks)
-    } else {
-        goes_to(Point::ReadSlot)
+    Move {
+        next: Next::To(Point::ReadSlot),
+        deed: unlinks(n, d, c),
     }
 }
 
@@ -209,18 +178,7 @@ fn help_unlink(n: Node, d: Node, c: Content) -> Move
 fn count_deletions(n: Node, s: Sight) -> Move
     ensures { result ≡ count_deletions n s }
 {
-    goes_to(Point::Mark(n, Target(one_more(s.count))))
-}
-
-// Lines 37 and 38: the deletion is raised before the node may be unlinked, so that whoever finds it can help.
-fn raise_then_unlink(n: Node, d: Node) -> Next
-    ensures { result ≡ Rattle.figures.specs.Figure3.update (deletion d) (ToUnlink n d) }
-{
-    let u = Update {
-        kind: Kind::Deletion,
-        node: d,
-    };
-    update_then(u, After::ToUnlink(n, d))
+    goes_to(Point::Mark(n, Target(s.count.wrapping_add(1))))
 }
 
 // Line 36: exchange that live node for the marked one. On failure, read again. On success, update.
@@ -229,8 +187,11 @@ fn mark(t: ThreadId, o: OpId, n: Node, c: Target, held: Content) -> Move
 {
     let d = node_of(t, c, o);
     if is_live(n, held) {
-        let x = raise_then_unlink(n, d);
-        moves(x, Deed::Marks(n, d))
+        // Lines 37 and 38: the deletion is raised before the node may be unlinked, so that whoever finds it can help.
+        Move {
+            next: update_then(deletion(d), After::ToUnlink(n, d)),
+            deed: Deed::Marks(n, d),
+        }
     } else {
         goes_to(Point::ReadSlot)
     }
@@ -240,11 +201,9 @@ fn mark(t: ThreadId, o: OpId, n: Node, c: Target, held: Content) -> Move
 fn unlink(n: Node, d: Node, c: Content) -> Move
     ensures { result ≡ unlink n d c }
 {
-    let x = Next::Returns(1);
-    if is_marked(n, d, c) {
-        moves(x, Deed::Unlinks)
-    } else {
-        moves(x, Deed::Rests)
+    Move {
+        next: Next::Returns(1),
+        deed: unlinks(n, d, c),
     }
 }
 
@@ -254,9 +213,9 @@ fn afterwards(a: After) -> Next
 {
     match a {
         After::Answer(x) => Next::Returns(x),
-        After::ToMark(n) => to(Point::CountDeletions(n)),
-        After::ToHelpUnlink(n, d) => to(Point::HelpUnlink(n, d)),
-        After::ToUnlink(n, d) => to(Point::Unlink(n, d)),
+        After::ToMark(n) => Next::To(Point::CountDeletions(n)),
+        After::ToHelpUnlink(n, d) => Next::To(Point::HelpUnlink(n, d)),
+        After::ToUnlink(n, d) => Next::To(Point::Unlink(n, d)),
     }
 }
 
@@ -264,7 +223,7 @@ fn update_next(x: UpdateNext, u: Update, a: After) -> Next
     ensures { result ≡ update_next x u a }
 {
     match x {
-        UpdateNext::Then(p) => to(Point::Updating(p, u, a)),
+        UpdateNext::Then(p) => Next::To(Point::Updating(p, u, a)),
         UpdateNext::Done(_) => afterwards(a),
     }
 }
@@ -273,32 +232,31 @@ fn update_next(x: UpdateNext, u: Update, a: After) -> Next
 fn updating(p: UpdatePoint, u: Update, a: After, s: Sight) -> Move
     ensures { result ≡ updating p u a s }
 {
-    let c = u.node.note.1;
-    let v = update(p, c, s);
-    let x = v.next;
-    let d = v.deed;
-    let n = update_next(x, u, a);
-    moves(n, Deed::Updates(d, u))
+    let v = update(p, u.node.note.1, s);
+    Move {
+        next: update_next(v.next, u, a),
+        deed: Deed::Updates(v.deed, u),
+    }
 }
 
 fn size_next(x: SizeNext) -> Next
     ensures { result ≡ size_next x }
 {
     match x {
-        SizeNext::Goes(p) => to(Point::Sizing(p)),
+        SizeNext::Goes(p) => Next::To(Point::Sizing(p)),
         SizeNext::Sized(a) => Next::Returns(a),
     }
 }
 
 // Line 41: one access of compute.
-fn sizing(p: SizePoint, threads: u8, seen: [Counts; THREADS], s: Sight) -> Move
-    ensures { result ≡ sizing p threads seen s }
+fn sizing(p: SizePoint, threads: u8, seen: &[Counts; THREADS], s: Sight) -> Move
+    ensures { result ≡ sizing p threads seen.now s }
 {
     let v = size(p, threads, seen, s);
-    let x = v.next;
-    let d = v.deed;
-    let n = size_next(x);
-    moves(n, Deed::Sizes(d))
+    Move {
+        next: size_next(v.next),
+        deed: Deed::Sizes(v.deed),
+    }
 }
 
 // The first access of an operation.
@@ -306,9 +264,7 @@ fn entry(k: Call) -> Point
     ensures { result ≡ Rattle.figures.specs.Figure3.entry k }
 {
     match k {
-        Call::Insert => Point::ReadSlot,
-        Call::Delete => Point::ReadSlot,
-        Call::Contains => Point::ReadSlot,
+        Call::Insert | Call::Delete | Call::Contains => Point::ReadSlot,
         Call::Size => Point::Sizing(SizePoint::FindCurrent),
     }
 }
@@ -316,9 +272,10 @@ fn entry(k: Call) -> Point
 pub fn cell_of(u: Update) -> Cell
     ensures { result ≡ cell_of u }
 {
-    let t = u.node.note.0;
-    let k = u.kind;
-    Cell { thread: t, kind: k }
+    Cell {
+        thread: u.node.note.0,
+        kind: u.kind,
+    }
 }
 
 // Between operations a thread begins the next one.
@@ -327,30 +284,23 @@ pub fn stands_at(p: Point, k: Call) -> Point
 {
     match p {
         Point::Idle => entry(k),
-        Point::ReadSlot => p,
-        Point::Updating(_, _, _) => p,
-        Point::CountInsertions => p,
-        Point::Link(_) => p,
-        Point::HelpUnlink(_, _) => p,
-        Point::CountDeletions(_) => p,
-        Point::Mark(_, _) => p,
-        Point::Unlink(_, _) => p,
-        Point::Sizing(_) => p,
+        _ => p,
     }
 }
 
 // The access that a thread makes, by where it stands.
+// stays: the eight parameters of `access_of`. They come from a thread, a record, a slot and what was heard, and travel together here alone.
 pub fn access(
     p: Point,
     t: ThreadId,
     o: OpId,
     k: Call,
     threads: u8,
-    seen: [Counts; THREADS],
+    seen: &[Counts; THREADS],
     s: Sight,
     c: Content,
 ) -> Move
-    ensures { result ≡ access_of p t o k threads seen s c }
+    ensures { result ≡ access_of p t o k threads seen.now s c }
 {
     match p {
         Point::Idle => goes_to(Point::Idle),
@@ -373,28 +323,21 @@ fn own_count(t: ThreadId, k: Kind) -> Request
     Request::Count(Cell { thread: t, kind: k })
 }
 
-fn updating_request(p: UpdatePoint, u: Update) -> Request
-    ensures { result ≡ update_request p (cell_of u) u.node.note.1 }
-{
-    let c = u.node.note.1;
-    update_request(p, cell_of(u), c)
-}
-
 // What an access of thread t asks of the counters and of the table of snapshots, by where the thread stands, which snapshot is current,
 // and the values `seen` that the thread has read for its sum.
-pub fn request(p: Point, t: ThreadId, current: SnapshotId, seen: [Counts; THREADS]) -> Request
-    ensures { result ≡ request_at p t current seen }
+pub fn request(p: Point, t: ThreadId, current: SnapshotId, seen: &[Counts; THREADS]) -> Request
+    ensures { result ≡ request_at p t current seen.now }
 {
     match p {
-        Point::Idle => Request::Nothing,
-        Point::ReadSlot => Request::Nothing,
-        Point::Updating(q, u, _) => updating_request(q, u),
+        Point::Updating(q, u, _) => update_request(q, cell_of(u), u.node.note.1),
         Point::CountInsertions => own_count(t, Kind::Insertion),
-        Point::Link(_) => Request::Nothing,
-        Point::HelpUnlink(_, _) => Request::Nothing,
         Point::CountDeletions(_) => own_count(t, Kind::Deletion),
-        Point::Mark(_, _) => Request::Nothing,
-        Point::Unlink(_, _) => Request::Nothing,
         Point::Sizing(q) => size_request(q, current, seen),
+        Point::Idle
+        | Point::ReadSlot
+        | Point::Link(_)
+        | Point::HelpUnlink(_, _)
+        | Point::Mark(_, _)
+        | Point::Unlink(_, _) => Request::Nothing,
     }
 }

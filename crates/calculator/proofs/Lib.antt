@@ -1,3 +1,1 @@
-pub mod Beyond
-pub mod Once
 pub mod Answers

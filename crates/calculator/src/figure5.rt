@@ -1,16 +1,17 @@
 // Figure 5, the methods of the calculator, one access each: updateMetadata and compute.
+// stays: free functions, here and in figure6.rt: methods of the points would stand in `figures`, which is kept apart from this code.
 ghost use Rattle.std.specs.Prelude.{◌≡◌};
 ghost use Rattle.figures.specs.Figure5.{read_count, raise_count, read_current, read_flag, read_again, update_at, find_current, find_flag, announce, collect_count, lower_flag, size_at};
 
 use super::exchange::before;
-use super::figure4::{THREADS, new_id};
+use super::figure4::new_id;
 use super::figure6::{
     collect_cell, collect_set, done, first_cell, fix_size, forward, go_to, goes, on_to, read_cell,
     sum_cell,
 };
 use figures::{
-    Cell, Counts, Sight, SizeDeed, SizeMove, SizePoint, UpdateDeed, UpdateMove, UpdateNext,
-    UpdatePoint,
+    Cell, Counts, Sight, SizeDeed, SizeMove, SizePoint, THREADS, UpdateDeed, UpdateMove,
+    UpdateNext, UpdatePoint,
 };
 use terms::{SnapshotId, Target};
 
@@ -18,8 +19,7 @@ use terms::{SnapshotId, Target};
 pub fn read_count(c: Target, s: Sight) -> UpdateMove
     ensures { result ≡ read_count c s }
 {
-    let expected = before(c);
-    if s.count == expected {
+    if s.count == before(c) {
         on_to(UpdatePoint::RaiseCount)
     } else {
         on_to(UpdatePoint::ReadCurrent(false))
@@ -30,11 +30,9 @@ pub fn read_count(c: Target, s: Sight) -> UpdateMove
 pub fn raise_count(c: Target, s: Sight) -> UpdateMove
     ensures { result ≡ raise_count c s }
 {
-    let expected = before(c);
-    if s.count == expected {
-        let next = UpdateNext::Then(UpdatePoint::ReadCurrent(true));
+    if s.count == before(c) {
         UpdateMove {
-            next: next,
+            next: UpdateNext::Then(UpdatePoint::ReadCurrent(true)),
             deed: UpdateDeed::Raises,
         }
     } else {
@@ -46,8 +44,7 @@ pub fn raise_count(c: Target, s: Sight) -> UpdateMove
 pub fn read_current(raised: bool, s: Sight) -> UpdateMove
     ensures { result ≡ read_current raised s }
 {
-    let n = s.current;
-    on_to(UpdatePoint::ReadFlag(raised, n))
+    on_to(UpdatePoint::ReadFlag(raised, s.current))
 }
 
 // Line 81: read its flag. If not collecting, done.
@@ -91,17 +88,15 @@ pub fn update(p: UpdatePoint, c: Target, s: Sight) -> UpdateMove
 pub fn find_current(s: Sight) -> SizeMove
     ensures { result ≡ find_current s }
 {
-    let n = s.current;
-    go_to(SizePoint::FindFlag(n))
+    go_to(SizePoint::FindFlag(s.current))
 }
 
 // Line 64: read its flag. If collecting, use it.
 pub fn find_flag(n: SnapshotId, s: Sight) -> SizeMove
     ensures { result ≡ find_flag n s }
 {
-    let j = first_cell();
     let p = if s.collecting {
-        SizePoint::CollectCount(n, j)
+        SizePoint::CollectCount(n, first_cell())
     } else {
         SizePoint::Announce(n)
     };
@@ -112,13 +107,13 @@ pub fn find_flag(n: SnapshotId, s: Sight) -> SizeMove
 pub fn announce(n: SnapshotId, s: Sight) -> SizeMove
     ensures { result ≡ announce n s }
 {
-    let j = first_cell();
-    let witnessed = s.current;
-    if witnessed.0 == n.0 {
-        let made = new_id(witnessed);
-        goes(SizePoint::CollectCount(made, j), SizeDeed::Announces)
+    if s.current == n {
+        goes(
+            SizePoint::CollectCount(new_id(s.current), first_cell()),
+            SizeDeed::Announces,
+        )
     } else {
-        go_to(SizePoint::CollectCount(witnessed, j))
+        go_to(SizePoint::CollectCount(s.current, first_cell()))
     }
 }
 
@@ -133,13 +128,12 @@ pub fn collect_count(n: SnapshotId, j: Cell, s: Sight) -> SizeMove
 pub fn lower_flag(n: SnapshotId) -> SizeMove
     ensures { result ≡ lower_flag n }
 {
-    let j = first_cell();
-    goes(SizePoint::SumCell(n, j), SizeDeed::Lowers(n))
+    goes(SizePoint::SumCell(n, first_cell()), SizeDeed::Lowers(n))
 }
 
 // Lines 57 to 74: one access of compute, with so many threads, by a thread that has read the values `seen` for its sum.
-pub fn size(p: SizePoint, threads: u8, seen: [Counts; THREADS], s: Sight) -> SizeMove
-    ensures { result ≡ size_at p threads seen s }
+pub fn size(p: SizePoint, threads: u8, seen: &[Counts; THREADS], s: Sight) -> SizeMove
+    ensures { result ≡ size_at p threads seen.now s }
 {
     match p {
         SizePoint::FindCurrent => find_current(s),

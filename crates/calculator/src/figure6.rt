@@ -1,17 +1,17 @@
 // Figure 6, the methods of a snapshot, one access each: forward, add, computeSize.
-ghost use Rattle.std.specs.Prelude.{◌≡◌};
-ghost use Rattle.figures.specs.declared.SizePoint.TheVariants.{SumCell, FixSize};
+ghost use Rattle.std.specs.Prelude.{◌≡◌, if◌then◌else◌, ltb, Some, None};
 ghost use Rattle.figures.specs.declared.SizeNext.TheVariants.{Goes};
-ghost use Rattle.figures.specs.Figure6.{on_to, done, behind, forward_from, read_cell, forward, first_cell, next_cell, go_to, each_cell, collect_next, collect_cell, collect_set, sum_cell, sum_of, total_of, fix_size};
+ghost use Rattle.figures.specs.Figure6.{on_to, done, forward_from, read_cell, forward, first_cell, next_cell, go_to, collect_next, collect_cell, collect_set, sum_cell, sum_of, total_of, fix_size};
 
-use super::figure4::{THREADS, count_of, one_more_byte};
+use super::figure4::count_of;
 use figures::{
-    Cell, Counts, Kind, Machine, Sight, SizeDeed, SizeMove, SizeNext, SizePoint, UpdateDeed,
-    UpdateMove, UpdateNext, UpdatePoint,
+    Cell, Counts, Kind, Machine, Sight, SizeDeed, SizeMove, SizeNext, SizePoint, THREADS,
+    UpdateDeed, UpdateMove, UpdateNext, UpdatePoint,
 };
 use terms::{SnapshotId, Target, ThreadId};
 
 // An access that changes nothing: on to the next, or the end of the update. It reports `raised`: whether this call raised the counter.
+// stays: two functions of one shape, for two definitions: one over `UpdateNext` would be called as `reads(UpdateNext::Then(p))`
 pub fn on_to(p: UpdatePoint) -> UpdateMove
     ensures { result ≡ on_to p }
 {
@@ -34,14 +34,10 @@ pub fn done(raised: bool) -> UpdateMove
 fn forward_from(raised: bool, n: SnapshotId, c: Target, v: u32) -> UpdateMove
     ensures { result ≡ forward_from raised n c v }
 {
-    if v == Machine::INVALID {
+    if v == Machine::INVALID || v < c.0 {
         on_to(UpdatePoint::Forward(raised, n, v))
     } else {
-        if v < c.0 {
-            on_to(UpdatePoint::Forward(raised, n, v))
-        } else {
-            done(raised)
-        }
+        done(raised)
     }
 }
 
@@ -79,18 +75,24 @@ pub fn first_cell() -> Cell
 fn next_cell(j: Cell) -> Cell
     ensures { result ≡ next_cell j }
 {
-    let i = j.thread;
-    let k = j.kind;
-    match k {
+    match j.kind {
         Kind::Insertion => Cell {
-            thread: i,
             kind: Kind::Deletion,
+            ..j
         },
         Kind::Deletion => Cell {
-            thread: ThreadId(one_more_byte(i.0)),
+            thread: ThreadId(j.thread.0.wrapping_add(1)),
             kind: Kind::Insertion,
         },
     }
+}
+
+// The next cell of the threads there are; none after the last.
+fn cell_after(threads: u8, j: Cell) -> Option<Cell>
+    ensures { result ≡ (if ltb (next_cell j).thread.0 threads then Some (next_cell j) else None) }
+{
+    let i = next_cell(j);
+    if i.thread.0 < threads { Some(i) } else { None }
 }
 
 // An access after which the thread goes on to p.
@@ -110,16 +112,11 @@ pub fn go_to(p: SizePoint) -> SizeMove
     goes(p, SizeDeed::Looks)
 }
 
-// On to the next cell of the threads there are; after the last, line 60.
+// On to the next cell; after the last, line 60.
 fn collect_next(threads: u8, n: SnapshotId, j: Cell) -> SizePoint
     ensures { result ≡ collect_next threads n j }
 {
-    let i = next_cell(j);
-    if i.thread.0 < threads {
-        SizePoint::CollectCount(n, i)
-    } else {
-        SizePoint::LowerFlag(n)
-    }
+    cell_after(threads, j).map_or(SizePoint::LowerFlag(n), |i| SizePoint::CollectCount(n, i))
 }
 
 // Line 93: read the cell.
@@ -146,54 +143,33 @@ pub fn collect_set(threads: u8, n: SnapshotId, j: Cell, v: u32, s: Sight) -> Siz
     }
 }
 
-// On to the next cell of the threads there are; after the last, line 109.
-fn sum_next(threads: u8, n: SnapshotId, j: Cell) -> SizePoint
-    ensures { result ≡ each_cell threads j (SumCell n) (FixSize n) }
-{
-    let after = next_cell(j);
-    if after.thread.0 < threads {
-        SizePoint::SumCell(n, after)
-    } else {
-        SizePoint::FixSize(n)
-    }
-}
-
-// Line 107: read a cell for the sum.
+// Line 107: read a cell for the sum; after the last, line 109.
 pub fn sum_cell(threads: u8, n: SnapshotId, j: Cell, s: Sight) -> SizeMove
     ensures { result ≡ sum_cell threads n j s }
 {
-    let p = sum_next(threads, n, j);
+    let p = cell_after(threads, j).map_or(SizePoint::FixSize(n), |i| SizePoint::SumCell(n, i));
     goes(p, SizeDeed::Keeps(j, s.cell))
 }
 
-fn sum_of(k: Kind, b: [Counts; THREADS]) -> u64
-    ensures { result ≡ sum_of k b }
+// The sum of one kind.
+fn sum_of(k: Kind, b: &[Counts; THREADS]) -> u64
+    ensures { result ≡ sum_of k b.now }
 {
-    let mut sum: u64 = 0;
-    let mut i = 0;
-    while i < THREADS {
-        sum += count_of(k, b[i]) as u64;
-        i += 1;
-    }
-    sum
+    b.iter().map(|c| u64::from(count_of(k, *c))).sum()
 }
 
 // The sum of insertions less deletions.
-pub fn total(b: [Counts; THREADS]) -> u32
-    ensures { result ≡ total_of b }
+pub fn total(b: &[Counts; THREADS]) -> u32
+    ensures { result ≡ total_of b.now }
 {
-    let up = sum_of(Kind::Insertion, b);
-    let down = sum_of(Kind::Deletion, b);
-    if down <= up {
-        ((up - down) % 4294967296) as u32
-    } else {
-        0
-    }
+    let difference = sum_of(Kind::Insertion, b).saturating_sub(sum_of(Kind::Deletion, b));
+    // stays: the definition keeps the low 32 bits, which no conversion of std does
+    (difference % (1 << 32)) as u32
 }
 
 // Line 109: exchange INVALID for the sum; on failure return the witnessed size.
-pub fn fix_size(n: SnapshotId, seen: [Counts; THREADS], s: Sight) -> SizeMove
-    ensures { result ≡ fix_size n seen s }
+pub fn fix_size(n: SnapshotId, seen: &[Counts; THREADS], s: Sight) -> SizeMove
+    ensures { result ≡ fix_size n seen.now s }
 {
     let sum = total(seen);
     if s.size == Machine::INVALID {

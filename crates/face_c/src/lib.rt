@@ -6,17 +6,18 @@ ghost use Rattle.std.proofs.lemmas.List.Edits.{sets};
 ghost use Rattle.runfile.specs.Read.{read_of};
 ghost use Rattle.runfile.specs.Write.{write_of, written_of};
 ghost use Rattle.play.specs.Run.{told_of, number_of, when, results_of, entries_of};
-ghost use Rattle.face.specs.Answers.{told_of_reading, told_of_writing, told_of_run};
 
-use face::{ReadAnswer, RunAnswer, WriteAnswer};
+use play::Told;
+use runfile::{Reading, Writing};
 
 #[unsafe(no_mangle)]
-pub extern "C" fn pszenorad_read(file: &[u8]) -> ReadAnswer
-    ensures { result ≡ told_of_reading (read_of file.now) }
+pub extern "C" fn pszenorad_read(file: &[u8]) -> Reading
+    ensures { result ≡ read_of file.now }
 {
     face::pszenorad_read(file)
 }
 
+// stays: the lists one by one, and numbers in place of a Result, since the C interface has them so
 #[unsafe(no_mangle)]
 pub extern "C" fn pszenorad_write(
     threads: u8,
@@ -25,9 +26,8 @@ pub extern "C" fn pszenorad_write(
     operations: &[u8],
     schedule: &[u8],
     out: &mut [u8],
-) -> WriteAnswer
-    ensures value { result ≡ told_of_writing
-        (write_of threads keys counts.now operations.now schedule.now (length out.old)) }
+) -> Writing
+    ensures value { result ≡ write_of threads keys counts.now operations.now schedule.now (length out.old) }
     ensures out_after { out.new ≡ sets out.old 0
         (written_of threads keys counts.now operations.now schedule.now (length out.old)) }
 {
@@ -35,8 +35,8 @@ pub extern "C" fn pszenorad_write(
 }
 
 #[unsafe(no_mangle)]
-pub extern "C" fn pszenorad_run(file: &[u8], results: &mut [u32], log: &mut [u32]) -> RunAnswer
-    ensures value { result ≡ told_of_run (told_of file.now (length results.old) (length log.old)) }
+pub extern "C" fn pszenorad_run(file: &[u8], results: &mut [u32], log: &mut [u32]) -> Told
+    ensures value { result ≡ told_of file.now (length results.old) (length log.old) }
     ensures results_after { results.new ≡ sets results.old 0
         (when (number_of file.now (length results.old) (length log.old)) (results_of file.now)) }
     ensures log_after { log.new ≡ sets log.old 0

@@ -9,11 +9,7 @@ use borrow.Author.Tests.{ltb-true, eqb-true}
 use Rattle.figures.specs.declared.Call.{Call}
 use Rattle.figures.specs.declared.Call.TheVariants.{Insert, Delete, Contains, Size}
 use Rattle.figures.specs.Codec.{call_of, key_of, code_of, is_size, allowed}
-use Rattle.terms.proofs.Once.{Once, once}
 use Rattle.figures.proofs.Laws.{lt_case}
-use Rattle.figures.proofs.call_of.Reads as call-of
-use Rattle.figures.proofs.key_of.Reads as key_of
-use Rattle.figures.proofs.is_size.Reads as is_size_lem
 
 -- a fact of the call that a byte means, by the four kinds
 pub call_case : (P : Call → Type 0) (b : ℕ) → (b < 64 → P Insert) → (64 ≤ b → b < 128 → P Delete)
@@ -45,14 +41,3 @@ allowed_key keys b low =
     (λ l m e. (omega arith, ltb-true (key_of b) keys e))
     (λ l m e. (omega arith, ltb-true (key_of b) keys e))
     (λ l e. let k = eqb-true b 192 e in (omega arith, omega arith))
-
--- Two answers that meet the promise are equal.
-
-pub call_once : Once (call-of.Post tt)
-call_once a r s e d p q = once p q
-
-pub key_once : Once (key_of.Post tt)
-key_once a r s e d p q = once p q
-
-pub size_once : Once (is_size_lem.Post tt)
-size_once a r s e d p q = once p q

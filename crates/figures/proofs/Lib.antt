@@ -1,5 +1,6 @@
 pub mod Laws
 pub mod Codec
+pub mod Unique
 pub mod Runs
 pub mod Shape
 pub mod Frame

@@ -4,8 +4,7 @@ use mathlib.Core.Path.{◌≡◌, refl, sym, ap, ◌∙◌}
 use mathlib.Core.Bool.{false}
 use mathlib.Core.List.{List, [], ◌∷◌}
 use native.Mathlib.Omega.{arith}
-use lib.ListN.{length, get_or, set, replicate}
-use lib.Seq.{sets}
+use lib.ListN.{length, get_or}
 use Rattle.history.specs.Tally.{tally, sum_to}
 use Rattle.history.proofs.Tally.{tally_none}
 use Rattle.terms.specs.declared.ThreadId.{ThreadId}
@@ -17,13 +16,13 @@ use Rattle.figures.specs.declared.Trace.{Trace}
 use Rattle.figures.specs.declared.Content.TheVariants.{Empty}
 use Rattle.figures.specs.declared.Slot.{Slot}
 use Rattle.figures.specs.declared.Point.TheVariants.{Idle}
-use Rattle.figures.specs.declared.Record.{Record}
 use Rattle.figures.specs.declared.Machine.{Machine}
 use Rattle.figures.specs.Figure4.{count_of, both, no_snapshot, no_trace, fresh_snapshot, fresh_trace}
 use Rattle.figures.specs.Figure6.{sum_of, total_of}
-use Rattle.figures.specs.Step.{no_local, no_record, no_slot, local_at}
-use Rattle.figures.specs.Start.{start_of, locals_of, records_of, owner_of, unbegun}
-use Rattle.figures.proofs.Laws.{set_holds}
+use Rattle.figures.specs.Step.{no_slot, local_at}
+use Rattle.figures.specs.Start.{start_of}
+use Rattle.figures.proofs.Laws.{replicate_holds}
+use Rattle.figures.proofs.Begin.{start_records, start_point}
 use Rattle.figures.proofs.Shape.{Shape}
 use Rattle.figures.proofs.World.{World}
 use Rattle.figures.proofs.Inv.{Inv, Core, Known, Event, exchanges, raises, reads, closes, stamp, Balance, raised_to, made, sum_by, total}
@@ -158,48 +157,22 @@ module _ (T n : ℕ) (w : World) (e : Quiet w) where
 
 -- ---- The start.
 
-module _ {A : Type 0} (P : A → Type 0) (a d : A) (p : P a) (q : P d) where
-  replicate_holds : (n i : ℕ) → P (get_or (replicate n a) i d)
-  replicate_holds zero i = q
-  replicate_holds (suc n) zero = p
-  replicate_holds (suc n) (suc i) = replicate_holds n i
-
--- every operation is one that has not begun
-module _ (P : Record → Type 0) (p : (t b : ℕ) → P (unbegun t b)) (counts : List ℕ) (j : ℕ) where
-  records_hold : (l : List Record) (i o : ℕ) (ops : List ℕ) → P (get_or l j no_record) → P (get_or (sets l i (records_of counts o ops)) j no_record)
-  unfolding records_of
-  records_hold l i o [] h = h
-  records_hold l i o (b ∷ ops) h =
-      let r = unbegun (owner_of counts o) b in
-      records_hold (set l i r) (suc i) (o + 1) ops (set_holds P l i j r no_record (λ e. p (owner_of counts o) b) h)
-
-locals_idle : (first : ℕ) (counts : List ℕ) (t : ℕ) → (get_or (locals_of first counts) t no_local).point ≡ Idle
-unfolding locals_of
-locals_idle first [] t = refl
-locals_idle first (c ∷ counts) zero = refl
-locals_idle first (c ∷ counts) (suc t) = locals_idle (first + c) counts t
-
 module _ (T K : ℕ) (counts ops : List ℕ) (g : ℕ → ℕ → ℕ) where
-  start_holds : (P : Record → Type 0) → ((t b : ℕ) → P (unbegun t b)) → P no_record → (o : ℕ) → P (get_or (start_of T K counts ops).records o no_record)
-  unfolding start_of
-  start_holds P p q o =
-      records_hold P p counts o (replicate 64 (unbegun 0 0)) 0 0 ops (replicate_holds P (unbegun 0 0) no_record (p 0 0) q 64 o)
-
   pub start_quiet : Quiet (world_of (start_of T K counts ops) g)
   unfolding start_of
   start_quiet =
       record {
-        first = λ o. start_holds (λ r. r.outcome.first ≡ 0) (λ t b. refl) refl o;
-        last = λ o. start_holds (λ r. r.outcome.last ≡ 0) (λ t b. refl) refl o;
-        read = λ o. start_holds (λ r. r.look.read ≡ 0) (λ t b. refl) refl o;
-        exch = λ o. start_holds (λ r. r.change.exchanged ≡ 0) (λ t b. refl) refl o;
-        raised = λ o. start_holds (λ r. r.change.raised ≡ 0) (λ t b. refl) refl o;
-        point = λ t. locals_idle 0 counts t;
+        first = λ o. start_records T K counts ops (λ r. r.outcome.first ≡ 0) refl (λ t b. refl) o;
+        last = λ o. start_records T K counts ops (λ r. r.outcome.last ≡ 0) refl (λ t b. refl) o;
+        read = λ o. start_records T K counts ops (λ r. r.look.read ≡ 0) refl (λ t b. refl) o;
+        exch = λ o. start_records T K counts ops (λ r. r.change.exchanged ≡ 0) refl (λ t b. refl) o;
+        raised = λ o. start_records T K counts ops (λ r. r.change.raised ≡ 0) refl (λ t b. refl) o;
+        point = λ t. start_point T K counts ops t;
         count = λ q. ap (λ (f : ℕ → ℕ). f q) block_zero;
         cur = refl;
-        flag = λ s. replicate_holds (λ (x : Snapshot). x.collecting ≡ false) (fresh_snapshot false) no_snapshot refl refl 65 s;
-        closed = λ s. replicate_holds (λ (x : Trace). x.closed ≡ 0) (fresh_trace 0) no_trace refl refl 65 s;
-        content = λ k. replicate_holds (λ (x : Slot). x.content ≡ Empty) no_slot no_slot refl refl 16 k;
+        flag = λ s. replicate_holds (λ (x : Snapshot). x.collecting ≡ false) 65 s (fresh_snapshot false) no_snapshot refl refl;
+        closed = λ s. replicate_holds (λ (x : Trace). x.closed ≡ 0) 65 s (fresh_trace 0) no_trace refl refl;
+        content = λ k. replicate_holds (λ (x : Slot). x.content ≡ Empty) 16 k no_slot no_slot refl refl;
       }
 
   pub start_inv : (n : ℕ) → Inv T n 0 (world_of (start_of T K counts ops) g)

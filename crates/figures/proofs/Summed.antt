@@ -1,13 +1,13 @@
 -- Over the run: a size took its answer from the snapshot that its record tells, and the values that a trace has as seen are those that
 -- the snapshot's winner read for its sum.
-use Prim.Native.Nat.{ℕ, zero, suc, ◌+◌, ◌≤◌, ◌<◌}
+use Prim.Native.Nat.{ℕ, suc, ◌+◌, ◌≤◌, ◌<◌}
 use mathlib.Core.Path.{◌≡◌, refl, sym, ap, ◌∙◌, subst}
 use mathlib.Core.Logic.{◌≢◌, ◌⊎◌, inl, inr}
 use mathlib.Core.Bool.{false}
 use mathlib.Core.List.{List, [], ◌∷◌, ◌++◌}
 use native.Mathlib.Omega.{arith}
 use native.Mathlib.Decide.{ℕ_discrete}
-use lib.ListN.{length, get_or}
+use lib.ListN.{length}
 use lib.Dec.{eqb}
 use borrow.Author.Tests.{eqb-false}
 use Rattle.terms.specs.declared.ThreadId.{ThreadId}
@@ -28,14 +28,14 @@ use Rattle.figures.specs.declared.Record.{Record}
 use Rattle.figures.specs.declared.Machine.{Machine}
 use Rattle.figures.specs.Figure4.{trace_at, sight_of}
 use Rattle.figures.specs.Figure3.{looks_at_cell, looks_at_snapshot}
-use Rattle.figures.specs.Step.{no_local, local_at, record_at, content_at, stands_at, access_of, move_of, run_of}
-use Rattle.figures.specs.Start.{start_of, locals_of}
+use Rattle.figures.specs.Step.{local_at, record_at, content_at, stands_at, access_of, move_of, run_of}
+use Rattle.figures.specs.Start.{start_of}
 use Rattle.figures.specs.Counts.{Within, ops_before}
 use Rattle.figures.specs.Events.{Event, Inside, Does, Fixing, SumRead, Answer, At}
 use Rattle.figures.proofs.Laws.{tests_differ}
 use Rattle.figures.proofs.Frame.{record_of, local_of, op_of, point_of, first_of}
 use Rattle.history.proofs.Turns.{owned_apart}
-use Rattle.figures.proofs.Begin.{Owned, before_grows, start_records}
+use Rattle.figures.proofs.Begin.{Owned, before_grows, start_records, start_point}
 use Rattle.figures.proofs.Sound.{Sound}
 use Rattle.figures.proofs.World.{World, put, put_same, put_other, call, no_of, tick, act, onward}
 use Rattle.figures.proofs.Guar.{Guar}
@@ -501,12 +501,6 @@ module _ (start : Machine) {counts : List ℕ} {T n : ℕ} {s : List ℕ} {t : �
 none_yet : {A : Type 0} {start : Machine} {E : Event} {k : ℕ} → At start [] E k → A
 none_yet a = absurd (omega (arith, a.some, a.there))
 
-locals_idle : (first : ℕ) (l : List ℕ) (t : ℕ) → (get_or (locals_of first l) t no_local).point ≡ Idle
-unfolding locals_of
-locals_idle first [] t = refl
-locals_idle first (c ∷ l) zero = refl
-locals_idle first (c ∷ l) (suc t) = locals_idle (first + c) l t
-
 module _ (threads keys : ℕ) (counts ops schedule : List ℕ) (within : Within threads keys counts ops schedule) where
   abbrev start : Machine
   start = start_of threads keys counts ops
@@ -523,7 +517,7 @@ module _ (threads keys : ℕ) (counts ops schedule : List ℕ) (within : Within 
 
   start_idle : (t : ℕ) → point_of start t ≡ Idle
   unfolding start_of
-  start_idle t = locals_idle 0 counts t
+  start_idle t = start_point threads keys counts ops t
 
   summed_start : Summed start counts threads [] start
   summed_start =

@@ -3,17 +3,19 @@
 // `accesses` (figure 3) and `machine`.
 #![tactic(auto)]
 
-ghost use Rattle.std.specs.Prelude.{◌≡◌, ◌<◌, ◌%◌, replicate};
+ghost use Rattle.std.specs.Prelude.{◌≡◌, ◌%◌, replicate};
 ghost use Rattle.std.proofs.lemmas.List.Edits.{sets};
 ghost use Rattle.figures.specs.declared.Point.TheVariants.{Idle};
 ghost use Rattle.figures.specs.Limits.{most_operations};
 ghost use Rattle.figures.specs.Figure4.{block_of};
 ghost use Rattle.figures.specs.Codec.{call_of, key_of, is_size};
+ghost use Rattle.figures.specs.Step.{no_record};
 ghost use Rattle.figures.specs.Start.{calculator_start, owner_of, records_of, locals_of, start_of};
 
 use terms::{Note, OpId, SnapshotId, Target, ThreadId};
 
-// The limits as lengths: threads, keys, and records of snapshots, one for each operation and record 0.
+// The limits as lengths, which a constant takes by `as` alone: threads, keys, and records of snapshots, one for each operation and
+// record 0.
 pub const THREADS: usize = Machine::THREADS as usize;
 
 pub const KEYS: usize = Machine::KEYS as usize;
@@ -23,14 +25,14 @@ pub const SNAPSHOTS: usize = Machine::OPERATIONS + 1;
 // ---- Figures 4 to 6: the calculator.
 
 // INSERT and DELETE (figure 3, line 1).
-#[derive(Clone, Copy)]
+#[derive(Clone, Copy, Debug, PartialEq, Eq)]
 pub enum Kind {
     Insertion,
     Deletion,
 }
 
 // One counter, or one cell of a snapshot: whose, and of which kind.
-#[derive(Clone, Copy)]
+#[derive(Clone, Copy, Debug, PartialEq, Eq)]
 pub struct Cell {
     pub thread: ThreadId,
     pub kind: Kind,
@@ -38,13 +40,14 @@ pub struct Cell {
 
 // An insertion number and a deletion number, of one thread. Laid out as C lays it out, as a snapshot is: a caller may lend these.
 #[repr(C)]
-#[derive(Clone, Copy)]
+#[derive(Clone, Copy, Debug, PartialEq, Eq, Default)]
 pub struct Counts {
     pub insertions: u32,
     pub deletions: u32,
 }
 
 // CountersSnapshot (figure 4, lines 48 to 51).
+// stays: INVALID in a cell or the size is in the lent table (C), and `behind`, `collect_set`, `fix_size` of Figure6 compare with it.
 #[repr(C)]
 #[derive(Clone, Copy)]
 pub struct Snapshot {
@@ -55,7 +58,8 @@ pub struct Snapshot {
 
 // What the log needs of a snapshot: the steps of its announcement, its closing and its fixing (0: not yet), and the values that its
 // winner read for its sum.
-#[derive(Clone, Copy)]
+// stays: 0 for not yet is a number in `TraceIn` (limited_run), `Sums` (sums_run), and `size_stands`, `missed` (agrees_run).
+#[derive(Clone, Copy, Debug, Default)]
 pub struct Trace {
     pub announced: u32,
     pub closed: u32,
@@ -64,6 +68,7 @@ pub struct Trace {
 }
 
 // SizeCalculator (figure 4, lines 45 to 47), with every snapshot announced so far.
+// stays: two lists beside one another, since a caller may lend the snapshots, laid out for C, and never the traces.
 #[derive(Clone, Copy)]
 pub struct Calculator {
     pub counters: [Counts; THREADS],
@@ -73,6 +78,7 @@ pub struct Calculator {
 }
 
 // What one access of the calculator can see: a counter, which snapshot is current, and of a snapshot its flag, a cell, its size.
+// stays: all five for one number heard, since every access of Figure5 and Figure6 is defined over a `Sight`.
 #[derive(Clone, Copy)]
 pub struct Sight {
     pub count: u32,
@@ -104,6 +110,8 @@ pub enum UpdateDeed {
 }
 
 // Where an update goes on, or what it reports at its end: whether this call raised the counter.
+// stays: of ControlFlow's shape, as `SizeNext` and `Next` are. Continue and Break(true) say less than Then and Done(raised), neither
+// is a failure, no caller has a use for `?`, and Figure3, Figure5 and Figure6 are read by these words.
 #[derive(Clone, Copy)]
 pub enum UpdateNext {
     Then(UpdatePoint),
@@ -158,28 +166,30 @@ pub struct SizeMove {
 
 // A node's inserter, target and inserting operation; or a mark's deleter, target and deleting operation.
 // The operation's number is the identity that an exchange compares.
-#[derive(Clone, Copy)]
+#[derive(Clone, Copy, Debug)]
 pub struct Node {
     pub note: Note,
     pub op: OpId,
 }
 
-#[derive(Clone, Copy)]
+#[derive(Clone, Copy, Debug, Default)]
 pub enum Content {
+    #[default]
     Empty,
     Live(Node),
     Marked(Node, Node),
 }
 
 // One slot per key.
-#[derive(Clone, Copy)]
+#[derive(Clone, Copy, Debug, Default)]
 pub struct Slot {
     pub content: Content,
 }
 
 // The kinds of operations, as the run file numbers them: 0 to 3.
-#[derive(Clone, Copy)]
+#[derive(Clone, Copy, Debug, PartialEq, Eq, Default)]
 pub enum Call {
+    #[default]
     Insert,
     Delete,
     Contains,
@@ -194,6 +204,7 @@ pub struct Update {
 }
 
 // What follows once the metadata is up to date.
+// stays: an answer is 0, 1 or a count here and in `Next`, as `Outcome` hands it back and `AfterIn` (limited_run) bounds it.
 #[derive(Clone, Copy)]
 pub enum After {
     Answer(u32),
@@ -251,7 +262,8 @@ pub struct Local {
 }
 
 // What an operation asks, and for which thread.
-#[derive(Clone, Copy)]
+// stays: a size has a key too, 0, since `Asked` is what a byte asks by `call_of` and `key_of` (coded).
+#[derive(Clone, Copy, Debug, PartialEq, Eq, Default)]
 pub struct Asked {
     pub thread: ThreadId,
     pub call: Call,
@@ -260,7 +272,8 @@ pub struct Asked {
 
 // The five numbers that are handed back: answer, first step, last step, own steps, and the thread that raised the update's counter
 // (INVALID for anything but a raised update).
-#[derive(Clone, Copy)]
+// stays: the numbers that C is handed; `OutcomeIn` (limited_run), `RaiserIs` (raisers_run) and `course_at` (demand_run) read them.
+#[derive(Clone, Copy, Debug, PartialEq, Eq, Default)]
 pub struct Outcome {
     pub answer: u32,
     pub first: u32,
@@ -270,7 +283,8 @@ pub struct Outcome {
 }
 
 // The last slot read: its step, and what it found.
-#[derive(Clone, Copy)]
+// stays: 0 for none read is a number in `LookIn` (limited_run) and `finder_stands` (agrees_run).
+#[derive(Clone, Copy, Debug, Default)]
 pub struct Look {
     pub read: u32,
     pub found: Content,
@@ -278,7 +292,8 @@ pub struct Look {
 
 // An update's target, the steps of its slot exchange and of its raising (0: not yet), and the snapshot that was being
 // collected at its raising (0: none).
-#[derive(Clone, Copy)]
+// stays: 0 for not yet is a number in `ChangeIn` (limited_run), `was_raised` (demand_run) and `missed` (agrees_run).
+#[derive(Clone, Copy, Debug, PartialEq, Eq, Default)]
 pub struct Change {
     pub target: Target,
     pub exchanged: u32,
@@ -288,7 +303,8 @@ pub struct Change {
 
 // An operation: what is asked, what is handed back, and what the log needs; `snapshot` is the one that a returned size took
 // its answer from.
-#[derive(Clone, Copy)]
+// stays: snapshot 0 for none is a number in `RecordIn` (limited_run) and `size_stands` (agrees_run).
+#[derive(Clone, Copy, Debug, Default)]
 pub struct Record {
     pub asked: Asked,
     pub outcome: Outcome,
@@ -312,17 +328,24 @@ pub struct Machine {
 
 // ---- The operation codec: an operation byte is kind × 64 + key.
 
-pub fn call_of(b: u8) -> Call
-    ensures { result ≡ call_of b }
-{
-    if b < 64 {
-        Call::Insert
-    } else {
-        if b < 128 {
-            Call::Delete
-        } else {
-            if b < 192 { Call::Contains } else { Call::Size }
+impl From<u8> for Call {
+    ghost from_gives = { λ b call. call ≡ call_of b };
+
+    fn from(b: u8) -> Call {
+        match b / 64 {
+            0 => Call::Insert,
+            1 => Call::Delete,
+            2 => Call::Contains,
+            _ => Call::Size,
         }
+    }
+}
+
+impl Call {
+    pub fn is_size(self) -> bool
+        ensures { result ≡ is_size self }
+    {
+        matches!(self, Call::Size)
     }
 }
 
@@ -332,15 +355,11 @@ pub fn key_of(b: u8) -> u8
     b % 64
 }
 
-pub fn is_size(call: Call) -> bool
-    ensures { result ≡ is_size call }
+// What is read where there is no operation of that number.
+pub fn no_record() -> Record
+    ensures { result ≡ no_record }
 {
-    match call {
-        Call::Insert => false,
-        Call::Delete => false,
-        Call::Contains => false,
-        Call::Size => true,
-    }
+    Record::default()
 }
 
 // ---- Memory at the start.
@@ -349,54 +368,35 @@ pub fn is_size(call: Call) -> bool
 fn unbegun(thread: u8, b: u8) -> Record
     ensures { result ≡ Rattle.figures.specs.Start.unbegun thread b }
 {
-    let call = call_of(b);
-    let key = key_of(b);
     Record {
         asked: Asked {
             thread: ThreadId(thread),
-            call: call,
-            key: key,
+            call: Call::from(b),
+            key: key_of(b),
         },
         outcome: Outcome {
             answer: Machine::INVALID,
-            first: 0,
-            last: 0,
-            own: 0,
             raiser: Machine::INVALID,
+            ..Outcome::default()
         },
-        look: Look {
-            read: 0,
-            found: Content::Empty,
-        },
-        change: Change {
-            target: Target(0),
-            exchanged: 0,
-            raised: 0,
-            window: SnapshotId(0),
-        },
-        snapshot: SnapshotId(0),
+        ..no_record()
     }
 }
 
-fn wide(x: u16) -> usize
-    ensures { (result ≡ x) × (result < 65536) }
-{
-    x as usize
-}
-
 // The thread that has operation o: each thread's operations follow those of the thread before.
+// stays: 8 where there is no such thread, since `owner_of` of specs/Start.antt is 8 there, in every record of an operation that is not
+// there (`start_of`).
 fn owner_of(counts: [u16; THREADS], o: usize) -> u8
     ensures { result ≡ owner_of counts o }
 {
     let mut left = o;
-    let mut i: usize = 0;
-    while i < THREADS {
-        let c = wide(counts[i]);
-        if left < c {
-            return i as u8;
+    for (thread, count) in counts.iter().enumerate() {
+        let count = usize::from(*count);
+        if left < count {
+            // stays: `as`, here and in `local_of`, since no `From` narrows
+            return thread as u8;
         }
-        left -= c;
-        i += 1;
+        left -= count;
     }
     Machine::THREADS
 }
@@ -404,12 +404,11 @@ fn owner_of(counts: [u16; THREADS], o: usize) -> u8
 fn records_of(counts: [u16; THREADS], operations: &[u8]) -> [Record; Machine::OPERATIONS]
     ensures { result ≡ sets (replicate most_operations (Rattle.figures.specs.Start.unbegun 0 0)) 0 (records_of counts 0 operations.now) }
 {
-    let r = unbegun(0, 0);
-    let mut records = [r; Machine::OPERATIONS];
-    let mut i = 0;
-    while i < Machine::OPERATIONS && i < operations.len() {
-        records[i] = unbegun(owner_of(counts, i), operations[i]);
-        i += 1;
+    let mut records = [unbegun(0, 0); Machine::OPERATIONS];
+    for (o, record) in records.iter_mut().enumerate() {
+        if let Some(b) = operations.get(o) {
+            *record = unbegun(owner_of(counts, o), *b);
+        }
     }
     records
 }
@@ -418,32 +417,23 @@ fn records_of(counts: [u16; THREADS], operations: &[u8]) -> [Record; Machine::OP
 fn local_of(first: usize, end: usize) -> Local
     ensures { result ≡ record { point = Idle; op = record { 0 = first % 256 }; end = record { 0 = end % 256 }; seen = block_of 0 } }
 {
-    let none = Counts {
-        insertions: 0,
-        deletions: 0,
-    };
-    let op = OpId((first % 256) as u8);
-    let e = OpId((end % 256) as u8);
     Local {
         point: Point::Idle,
-        op: op,
-        end: e,
-        seen: [none; THREADS],
+        op: OpId((first % 256) as u8),
+        end: OpId((end % 256) as u8),
+        seen: [Counts::default(); THREADS],
     }
 }
 
 fn locals_of(counts: [u16; THREADS]) -> [Local; THREADS]
     ensures { result ≡ locals_of 0 counts }
 {
-    let l = local_of(0, 0);
-    let mut locals = [l; THREADS];
-    let mut first: usize = 0;
-    let mut i = 0;
-    while i < THREADS {
-        let end = first + wide(counts[i]);
-        locals[i] = local_of(first, end);
+    let mut locals = [local_of(0, 0); THREADS];
+    let mut first = 0;
+    for (t, count) in counts.iter().enumerate() {
+        let end = first + usize::from(*count);
+        locals[t] = local_of(first, end);
         first = end;
-        i += 1;
     }
     locals
 }
@@ -452,30 +442,20 @@ fn locals_of(counts: [u16; THREADS]) -> [Local; THREADS]
 fn calculator_start() -> Calculator
     ensures { result ≡ calculator_start }
 {
-    let none = Counts {
-        insertions: 0,
-        deletions: 0,
-    };
     let invalid = Counts {
         insertions: Machine::INVALID,
         deletions: Machine::INVALID,
     };
-    let s = Snapshot {
+    let snapshot = Snapshot {
         cells: [invalid; THREADS],
         collecting: false,
         size: Machine::INVALID,
     };
-    let t = Trace {
-        announced: 0,
-        closed: 0,
-        fixed: 0,
-        seen: [none; THREADS],
-    };
     Calculator {
-        counters: [none; THREADS],
+        counters: [Counts::default(); THREADS],
         current: SnapshotId(0),
-        snapshots: [s; SNAPSHOTS],
-        traces: [t; SNAPSHOTS],
+        snapshots: [snapshot; SNAPSHOTS],
+        traces: [Trace::default(); SNAPSHOTS],
     }
 }
 
@@ -495,22 +475,15 @@ impl Machine {
     pub fn start(threads: u8, keys: u8, counts: [u16; THREADS], operations: &[u8]) -> Machine
         ensures { result ≡ start_of threads keys counts operations.now }
     {
-        let calculator = calculator_start();
-        let slot = Slot {
-            content: Content::Empty,
-        };
-        let slots = [slot; KEYS];
-        let locals = locals_of(counts);
-        let records = records_of(counts, operations);
         Machine {
-            threads: threads,
-            keys: keys,
+            threads,
+            keys,
             clock: 0,
             idle: 0,
-            calculator: calculator,
-            slots: slots,
-            locals: locals,
-            records: records,
+            calculator: calculator_start(),
+            slots: [Slot::default(); KEYS],
+            locals: locals_of(counts),
+            records: records_of(counts, operations),
         }
     }
 }

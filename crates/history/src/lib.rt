@@ -5,6 +5,7 @@
 // Where an operation stands in the log: at a step; there, sizes (rank 0) before all others (rank 1); then by `tie`, which parts those
 // of one rank (sizes by thread, updates by the step of their change), and an update (0) before those that found it, by their read
 // (`read`).
+// stays: the ranks are numbers, since `number_of` (placed) makes one number of a place, by which the log is ordered.
 #[derive(Clone, Copy)]
 pub struct Place {
     pub step: u32,

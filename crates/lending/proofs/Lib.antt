@@ -1,5 +1,2 @@
-pub mod Answered
-pub mod LentOn
 pub mod Once
-pub mod Pairs
 pub mod Unique

@@ -1,5 +1,5 @@
-// Lent memory: the block of counters, and a slice of snapshot records. Each function here makes one access: it loads one part, calls
-// a function by value of the crate `calculator`, and stores what it gives.
+// Lent memory: the block of counters, and a slice of snapshot records. Each function here makes one access, to one part; what is found
+// and what is there afterwards is told by the functions of the crate `calculator`.
 #![tactic(auto)]
 
 ghost use Rattle.std.specs.Prelude.{◌≡◌, cond};
@@ -7,30 +7,27 @@ ghost use Rattle.figures.specs.Figure4.{count_at};
 ghost use Rattle.calculator.specs.Exchanges.{absent, raised_in, witnessed_of};
 ghost use Rattle.calculator.specs.Requests.{record_in, exchanged_in, heard, counters_by, table_by};
 
-use calculator::exchange::{Exchange, exchanged, raised_pair, witnessed};
+use calculator::exchange::{Exchange, raised_pair};
 use calculator::figure4::{block_of, count_at, count_of};
 use calculator::request::Request;
-use figures::{Cell, Counts, Machine, Snapshot};
+use figures::{Cell, Counts, Snapshot, THREADS};
 use terms::{SnapshotId, Target};
 
 // The counter of a cell. A thread that is not there has none: 0 is read.
-pub fn count(block: &[Counts; figures::THREADS], cell: Cell) -> u32
+pub fn count(block: &[Counts; THREADS], cell: Cell) -> u32
     ensures { result ≡ count_at block.now cell }
 {
-    if cell.thread.0 < Machine::THREADS {
-        let i = cell.thread.0 as usize;
-        return count_of(cell.kind, block[i]);
-    }
-    0
+    count_at(block, cell)
 }
 
 // Figure 5, line 79: exchanges c-1 for c in the counter of j, and returns the value witnessed. A thread that is not there has no
 // counter: 0 is witnessed.
-pub fn raise(block: &mut [Counts; figures::THREADS], j: Cell, c: Target) -> u32
+pub fn raise(block: &mut [Counts; THREADS], j: Cell, c: Target) -> u32
     ensures { (result ≡ count_at block.old j) × (block.new ≡ raised_in block.old j c) }
 {
-    if j.thread.0 < Machine::THREADS {
-        let i = j.thread.0 as usize;
+    let i = usize::from(j.thread.0);
+    // stays: an index, since after a slice's `get_mut` the check knows its length and none of its elements
+    if i < THREADS {
         let p = block[i];
         block[i] = raised_pair(j.kind, c, p);
         count_of(j.kind, p)
@@ -43,70 +40,47 @@ pub fn raise(block: &mut [Counts; figures::THREADS], j: Cell, c: Target) -> u32
 pub fn no_snapshot() -> Snapshot
     ensures { result ≡ absent }
 {
-    let cells = block_of(0);
     Snapshot {
-        cells: cells,
+        cells: block_of(0),
         collecting: false,
         size: 0,
     }
 }
 
 // Record n of a lent table.
+// stays: by value, since two answers that meet the promise are equal (`read_once`), and two references to one record need not be
 pub fn read(table: &[Snapshot], n: SnapshotId) -> Snapshot
     ensures { result ≡ record_in table.now n }
 {
-    let k = n.0 as usize;
-    if k < table.len() {
-        return table[k];
-    }
-    no_snapshot()
-}
-
-// What an exchange finds there, beyond the end.
-fn beyond(x: Exchange) -> u32
-    ensures { result ≡ witnessed_of x absent }
-{
-    witnessed(x, no_snapshot())
+    table
+        .get(usize::from(n.0))
+        .copied()
+        .unwrap_or_else(no_snapshot)
 }
 
 // Makes an exchange in record n of a lent table, and returns the value witnessed.
 pub fn exchange(table: &mut [Snapshot], n: SnapshotId, x: Exchange) -> u32
     ensures { (result ≡ witnessed_of x (record_in table.old n)) × (table.new ≡ exchanged_in table.old n x) }
 {
-    let k = n.0 as usize;
+    let k = usize::from(n.0);
+    // stays: an index, as in `raise`
     if k < table.len() {
-        let s = table[k];
-        table[k] = exchanged(x, s);
-        witnessed(x, s)
+        x.exchange(&mut table[k])
     } else {
-        beyond(x)
+        x.witnessed(&no_snapshot())
     }
 }
 
-// What is heard where a record's flag is read, and where one of its cells is.
-fn flag_in(s: Snapshot) -> u32
-    ensures { result ≡ cond s.collecting 1 0 }
-{
-    if s.collecting { 1 } else { 0 }
-}
-
-fn value_in(s: Snapshot, j: Cell) -> u32
-    ensures { result ≡ count_at s.cells j }
-{
-    let cells = s.cells;
-    count_at(cells, j)
-}
-
-// Makes the one access that is asked for, and returns what is heard.
-pub fn perform(table: &mut [Snapshot], block: &mut [Counts; figures::THREADS], q: Request) -> u32
+// Makes the one access that is asked for, and returns what is heard. A flag or a cell is read where it lies: its record is not copied.
+pub fn perform(table: &mut [Snapshot], block: &mut [Counts; THREADS], q: Request) -> u32
     ensures { (result ≡ heard q block.old table.old) × (block.new ≡ counters_by q block.old) × (table.new ≡ table_by q table.old) }
 {
     match q {
         Request::Nothing => 0,
         Request::Count(j) => count(block, j),
         Request::Raise(j, c) => raise(block, j, c),
-        Request::Flag(n) => flag_in(read(table, n)),
-        Request::Value(n, j) => value_in(read(table, n), j),
+        Request::Flag(n) => u32::from(read(table, n).collecting),
+        Request::Value(n, j) => count_at(&read(table, n).cells, j),
         Request::Exchanges(n, x) => exchange(table, n, x),
     }
 }

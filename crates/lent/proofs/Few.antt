@@ -25,7 +25,8 @@ use Rattle.figures.proofs.Threads.{moved}
 use Rattle.figures.proofs.Sound.{Sound, few_ops, length_snoc}
 use Rattle.figures.proofs.Sizes.{current_counts, call_at}
 use Rattle.figures.proofs.Counted.{facts_run}
-use Rattle.lent.specs.Table.{is_size, sizes_of}
+use Rattle.figures.specs.Codec.{is_size}
+use Rattle.lent.specs.Table.{sizes_of}
 use Rattle.lent.proofs.Deeds.{Third, announcement_third}
 use Rattle.lent.proofs.Prefixes.{run_within, deed_now}
 

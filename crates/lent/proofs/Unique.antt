@@ -15,22 +15,24 @@ use types.Logic.{Logic}
 use contract.Monad.{Fun, fact}
 use Rattle.terms.proofs.Once.{once}
 use Rattle.figures.specs.declared.Snapshot.{Snapshot}
-use Rattle.figures.specs.declared.Machine.{Machine}
-use Rattle.machine.specs.Parts.{rest_of}
+use Rattle.machine.specs.declared.Rest.{Rest}
 use Rattle.runfile.specs.Read.{read_of}
 use Rattle.play.specs.declared.Told.{Told}
 use Rattle.play.specs.Run.{results_of, entries_of, number_of, told_of, refused, ran, when}
 use Rattle.play.proofs.Decided.{is_written}
-use Rattle.lending.proofs.Once.{OnceOver, both_say, both_facts}
+use Rattle.play.proofs.Answers.{told_once}
+use Rattle.lending.proofs.Once.{OnceOver, both_say}
 use Rattle.lent.specs.Runs.{lent_small, lent_number, lent_told}
 use Rattle.lent.proofs.LentRun.{same_number, same_told}
-use Rattle.lent.specs.contracts.step_lent as step
-use Rattle.lent.specs.contracts.play_lent as play
 use Rattle.lent.specs.contracts.run_over as over
+use Rattle.lent.specs.contracts.run as run
 use Rattle.lent.specs.contracts.pszenorad_run_lent as run_lent
 
 the : (A : Type 0) → A → A
 the A a = a
+
+two_facts : {M : Type 1} (𝓤 : Ura M) {φ ψ : Type 0} → ent 𝓤 (sep 𝓤 (fact 𝓤 φ) (fact 𝓤 ψ)) (fact 𝓤 (φ × ψ))
+two_facts 𝓤 {φ} {ψ} = both_say 𝓤 (id⊢ 𝓤 (fact 𝓤 φ)) (id⊢ 𝓤 (fact 𝓤 ψ)) (λ (a : φ) (b : ψ). the (φ × ψ) (a, b))
 
 -- the first four of five clauses
 four_facts : {M : Type 1} (𝓤 : Ura M) {φ ψ χ ω α : Type 0}
@@ -42,20 +44,24 @@ four_facts 𝓤 {φ} {ψ} {χ} {ω} {α} =
     (λ (b : ψ) (c : χ × ω). the (ψ × χ × ω) (b, c.0, c.1)))
     (λ (a : φ) (b : ψ × χ × ω). (a, b.0, b.1, b.2))
 
-module _ {M : Type 1} {𝓤 : Ura M} (𝓛 : Logic 𝓤) (mem : Memory → SProp 𝓤) (run : Routine → Fun 𝓤) where
-  -- a machine tells its rest, its counters and its table
-  pub step_lent_once : OnceOver 𝓤 step.ended (step.clauses 𝓛 mem run)
-  step_lent_once κs a g r s ws vs =
-      both_facts 𝓤 (λ p q. (ap rest_of (once p q), ap (λ (m : Machine). (m.calculator.snapshots, (m.calculator.counters, (tt, (tt, tt))))) (once p q)))
+module _ {M : Type 1} {𝓤 : Ura M} (𝓛 : Logic 𝓤) (mem : Memory → SProp 𝓤) (routine : Routine → Fun 𝓤) where
+  pub run_over_once : OnceOver 𝓤 over.ended (over.clauses 𝓛 mem routine)
+  run_over_once κs a g r s ws vs =
+      both_say 𝓤 (two_facts 𝓤) (two_facts 𝓤) (λ p q. (
+        refl,
+        ap (λ (l : List Snapshot). (l, (ws.1.0, (tt, tt)))) (once p.1 q.1) ∙ ap (λ (m : Rest). (vs.0, (m, (tt, tt)))) (once p.0 q.0),
+      ))
 
-  pub play_lent_once : OnceOver 𝓤 play.ended (play.clauses 𝓛 mem run)
-  play_lent_once κs a g r s ws vs =
-      both_facts 𝓤 (λ p q. (ap rest_of (once p q), ap (λ (m : Machine). (m.calculator.snapshots, (m.calculator.counters, (tt, (tt, (tt, tt)))))) (once p q)))
+  pub run_once : OnceOver 𝓤 run.ended (run.clauses 𝓛 mem routine)
+  run_once κs a g r s ws vs =
+      both_say 𝓤 (four_facts 𝓤) (four_facts 𝓤) (λ p q. (
+        told_once r s (once p.0 q.0),
+        ap (λ (l : List ℕ). (tt, (l, (ws.1.1.0, (ws.1.1.1.0, tt))))) (once p.1 q.1)
+            ∙ ap (λ (l : List ℕ). (tt, (vs.1.0, (l, (ws.1.1.1.0, tt))))) (once p.2 q.2)
+            ∙ ap (λ (l : List Snapshot). (tt, (vs.1.0, (vs.1.1.0, (l, tt))))) (once p.3 q.3),
+      ))
 
-  pub run_over_once : OnceOver 𝓤 over.ended (over.clauses 𝓛 mem run)
-  run_over_once κs a g r s ws vs = both_facts 𝓤 (λ p q. (once p.0 q.0, ap (λ (l : List Snapshot). (l, (tt, (tt, (tt, tt))))) (once p.1 q.1)))
-
-  pub run_lent_once : OnceOver 𝓤 run_lent.ended (run_lent.clauses 𝓛 mem run)
+  pub run_lent_once : OnceOver 𝓤 run_lent.ended (run_lent.clauses 𝓛 mem routine)
   run_lent_once κs a g r s ws vs =
       both_say 𝓤 (four_facts 𝓤) (four_facts 𝓤) (λ p q. (
         once p.0 q.0,

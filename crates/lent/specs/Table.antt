@@ -1,10 +1,8 @@
 -- A snapshot table that the caller lends: a machine over it, and the records that a run announces in it.
-use Rattle.std.specs.Prelude.{ℕ, suc, ◌+◌, Bool, true, false, cond, List, [], ◌∷◌, take}
+use Rattle.std.specs.Prelude.{ℕ, suc, ◌+◌, cond, List, [], ◌∷◌, take}
 use Rattle.figures.specs.declared.Snapshot.{Snapshot}
-use Rattle.figures.specs.declared.Call.{Call}
-use Rattle.figures.specs.declared.Call.TheVariants.{Insert, Delete, Contains, Size}
 use Rattle.figures.specs.declared.Machine.{Machine}
-use Rattle.figures.specs.Start.{call_of}
+use Rattle.figures.specs.Codec.{call_of, is_size}
 use Rattle.machine.specs.Parts.{whole_of, rest_of}
 
 -- the machine whose snapshots are this list
@@ -14,12 +12,6 @@ with_table table m = whole_of (rest_of m) m.calculator.counters table
 -- the announced records: record 0 to the current one
 abbrev pub announced_in : Machine → List Snapshot
 announced_in m = take (suc m.calculator.current.0) m.calculator.snapshots
-
-abbrev pub is_size : Call → Bool
-is_size Insert = false
-is_size Delete = false
-is_size Contains = false
-is_size Size = true
 
 -- how many of these operation bytes are sizes
 unfoldable pub sizes_of : List ℕ → ℕ

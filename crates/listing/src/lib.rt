@@ -2,187 +2,193 @@
 // into words, and written to `out`.
 #![tactic(auto)]
 
-ghost use Rattle.std.specs.Prelude.{◌≡◌, ◌+◌, ◌<◌, ◌≤◌, length};
-ghost use Rattle.figures.specs.Limits.{most_operations};
+ghost use Rattle.std.specs.Prelude.{◌≡◌, ◌+◌, take, IfOk, IfSome};
+ghost use Rattle.runfile.specs.Contents.{longest};
 ghost use Rattle.runfile.specs.Read.{read_of};
 
-use figures::Machine;
+use figures::{Call, Machine};
 use places::writing::PER_ENTRY;
-use play::{PER_OPERATION, Told};
-use runfile::Reading;
-use std::io;
-use std::io::Write;
+use play::{PER_OPERATION, Played};
+use runfile::{Layout, Refused};
+use std::alloc::Global;
+use std::fmt::{Display, Formatter};
+use std::io::{Read, Write};
+use std::{fmt, io, iter};
 
-// Room for every run.
-const RESULTS: usize = PER_OPERATION * Machine::OPERATIONS;
-
-const LOG: usize = PER_ENTRY * Machine::OPERATIONS;
-
-const THREADS: usize = Machine::THREADS as usize;
-
-fn print_words<W: Write>(out: &mut W, words: &[u8]) -> io::Result<()> {
-    out.write_all(words)
+// What an operation byte asks; a size has no key.
+#[derive(Clone, Copy)]
+struct Request {
+    call: Call,
+    key: u8,
 }
 
-// A number, after the words that name it.
-fn print_field<W: Write>(out: &mut W, name: &[u8], number: u64) -> io::Result<()> {
-    out.write_all(name)?;
-    write!(out, "{number}")
-}
-
-fn wide(x: u32) -> u64 {
-    x as u64
-}
-
-fn wide_count(x: u16) -> usize
-    ensures value { result ≡ x }
-    ensures upper_bound { result < 65536 }
-{
-    x as usize
-}
-
-fn print_refusal<W: Write>(out: &mut W, number: u32, place: usize) -> io::Result<()> {
-    print_field(out, b"refused ", number as u64)?;
-    print_field(out, b" at ", place as u64)?;
-    print_words(out, b"\n")
-}
-
-fn print_head<W: Write>(out: &mut W, r: Reading, told: Told) -> io::Result<()> {
-    print_field(out, b"run threads ", r.threads as u64)?;
-    print_field(out, b" keys ", r.keys as u64)?;
-    print_field(out, b" operations ", r.operations as u64)?;
-    print_field(out, b" steps ", r.steps as u64)?;
-    print_field(out, b" idle ", told.idle as u64)?;
-    print_field(out, b" snapshots ", told.snapshots as u64)?;
-    print_words(out, b"\n")
-}
-
-// Kind and key of an operation byte; a size has no key.
-fn print_asked<W: Write>(out: &mut W, asked: u8) -> io::Result<()> {
-    let key = (asked % 64) as u64;
-    match asked / 64 {
-        0 => print_field(out, b" insert ", key),
-        1 => print_field(out, b" delete ", key),
-        2 => print_field(out, b" contains ", key),
-        _ => print_words(out, b" size -"),
+impl From<u8> for Request {
+    fn from(byte: u8) -> Self {
+        Request {
+            call: Call::from(byte),
+            key: figures::key_of(byte),
+        }
     }
 }
 
-// The answer of an operation byte, unfinished where there is no last step; a count, where a size is asked.
-fn print_answer<W: Write>(out: &mut W, asked: u8, answer: u32, last: u32) -> io::Result<()> {
-    if last == 0 {
-        return print_words(out, b" answer unfinished");
+impl Display for Request {
+    fn fmt<W: fmt::Write>(&self, f: &mut Formatter<W>) -> fmt::Result {
+        let key = self.key;
+        match self.call {
+            Call::Insert => write!(f, "insert {key}"),
+            Call::Delete => write!(f, "delete {key}"),
+            Call::Contains => write!(f, "contains {key}"),
+            Call::Size => write!(f, "size -"),
+        }
     }
-    if asked / 64 == 3 {
-        return print_field(out, b" answer ", answer as u64);
+}
+
+#[derive(Clone, Copy)]
+enum Answer {
+    Unfinished,
+    Held(bool),
+    Counted(u32),
+}
+
+impl Answer {
+    // The answer to `call`, as it is handed back; unfinished where there is no last step.
+    fn new(call: Call, answer: u32, last: u32) -> Self {
+        match (call, last) {
+            (_, 0) => Answer::Unfinished,
+            (Call::Size, _) => Answer::Counted(answer),
+            _ => Answer::Held(answer != 0),
+        }
     }
-    if answer == 0 {
-        print_words(out, b" answer false")
-    } else {
-        print_words(out, b" answer true")
+}
+
+impl Display for Answer {
+    fn fmt<W: fmt::Write>(&self, f: &mut Formatter<W>) -> fmt::Result {
+        match self {
+            Answer::Unfinished => write!(f, "unfinished"),
+            Answer::Held(held) => write!(f, "{held}"),
+            Answer::Counted(count) => write!(f, "{count}"),
+        }
     }
 }
 
 // The thread that raised an update; none for anything else.
-fn print_raiser<W: Write>(out: &mut W, raiser: u32) -> io::Result<()> {
-    if raiser == Machine::INVALID {
-        print_words(out, b" raisedby -")
-    } else {
-        print_field(out, b" raisedby ", raiser as u64)
+#[derive(Clone, Copy)]
+struct Raiser(Option<u32>);
+
+impl From<u32> for Raiser {
+    fn from(raiser: u32) -> Self {
+        match raiser {
+            Machine::INVALID => Raiser(None),
+            thread => Raiser(Some(thread)),
+        }
     }
 }
 
-// One operation's line, with its numbers.
-fn print_operation<W: Write>(
-    out: &mut W,
-    o: usize,
-    thread: usize,
-    asked: u8,
-    results: &[u32; RESULTS],
-) -> io::Result<()>
-    requires { o < most_operations }
-{
-    let at = PER_OPERATION * o;
-    print_field(out, b"op ", o as u64)?;
-    print_field(out, b" thread ", thread as u64)?;
-    print_asked(out, asked)?;
-    print_answer(out, asked, results[at], results[at + 2])?;
-    print_field(out, b" first ", wide(results[at + 1]))?;
-    print_field(out, b" last ", wide(results[at + 2]))?;
-    print_field(out, b" own ", wide(results[at + 3]))?;
-    print_raiser(out, results[at + 4])?;
-    print_words(out, b"\n")
-}
-
-// The operations of one thread, numbered `first` up to `end`; the file has all operation bytes from `at` on.
-fn print_thread<W: Write>(
-    out: &mut W,
-    thread: usize,
-    first: usize,
-    end: usize,
-    file: &[u8],
-    at: usize,
-    results: &[u32; RESULTS],
-) -> io::Result<()>
-    requires { (end ≤ most_operations) × (at + end ≤ length file.now) }
-{
-    let mut o = first;
-    while o < end {
-        print_operation(out, o, thread, file[at + o], results)?;
-        o += 1;
+impl Display for Raiser {
+    fn fmt<W: fmt::Write>(&self, f: &mut Formatter<W>) -> fmt::Result {
+        match self.0 {
+            Some(thread) => write!(f, "{thread}"),
+            None => write!(f, "-"),
+        }
     }
-    Ok(())
 }
 
-// Each thread's operations follow those of the thread before.
+// A line for each operation byte, with its numbers.
 fn print_operations<W: Write>(
     out: &mut W,
     file: &[u8],
-    r: Reading,
-    results: &[u32; RESULTS],
-) -> io::Result<()>
-    requires { (r ≡ read_of file.now) × (r.number ≡ 0) }
-{
-    let counts = r.counts;
-    let at = r.operations_at;
-    let mut first: usize = 0;
-    let mut thread: usize = 0;
-    while thread < THREADS {
-        let end = first + wide_count(counts[thread]);
-        print_thread(out, thread, first, end, file, at, results)?;
-        first = end;
-        thread += 1;
+    layout: &Layout,
+    results: &[u32],
+) -> io::Result<()> {
+    // Each thread's operations follow those of the thread before.
+    let threads = layout.counts.iter().enumerate();
+    let threads = threads.flat_map(|(thread, n)| iter::repeat_n(thread, usize::from(*n)));
+    let (results, _) = results.as_chunks::<PER_OPERATION>();
+    let operations = threads
+        .zip(file.iter().skip(layout.operations_at))
+        .zip(results);
+    for (o, ((thread, byte), result)) in operations.enumerate() {
+        let [answer, first, last, own, raiser] = *result;
+        let asked = Request::from(*byte);
+        let answer = Answer::new(asked.call, answer, last);
+        let raiser = Raiser::from(raiser);
+        writeln!(
+            out,
+            "op {o} thread {thread} {asked} answer {answer} first {first} last {last} own {own} raisedby {raiser}"
+        )?;
     }
     Ok(())
 }
 
-fn print_entry<W: Write>(out: &mut W, o: u32, step: u32) -> io::Result<()> {
-    print_field(out, b"log ", o as u64)?;
-    print_field(out, b" at ", step as u64)?;
-    print_words(out, b"\n")
-}
-
-fn print_log<W: Write>(out: &mut W, entries: usize, log: &[u32; LOG]) -> io::Result<()>
-    requires { entries ≤ most_operations }
-{
-    let mut i: usize = 0;
-    while i < entries {
-        print_entry(out, log[PER_ENTRY * i], log[PER_ENTRY * i + 1])?;
-        i += 1;
+fn print_log<W: Write>(out: &mut W, log: &[u32], entries: usize) -> io::Result<()> {
+    let (log, _) = log.as_chunks::<PER_ENTRY>();
+    for [o, step] in log.iter().take(entries) {
+        writeln!(out, "log {o} at {step}")?;
     }
     Ok(())
+}
+
+// What the file holds, and what its run hands back.
+fn read_and_play(
+    file: &[u8],
+    results: &mut [u32],
+    log: &mut [u32],
+) -> Result<(Layout, Played), Refused> {
+    Ok((runfile::read(file)?, play::run(file, results, log)?))
 }
 
 // Runs the file and prints all that is handed back, or the refusal. There is room for every run: number 11 is never printed.
 pub fn print_run<W: Write>(out: &mut W, file: &[u8]) -> io::Result<()> {
-    let mut results = [0u32; RESULTS];
-    let mut log = [0u32; LOG];
-    let told = play::run(file, &mut results, &mut log);
-    if told.number != 0 {
-        return print_refusal(out, told.number, told.place);
+    let mut results = [0; PER_OPERATION * Machine::OPERATIONS];
+    let mut log = [0; PER_ENTRY * Machine::OPERATIONS];
+    match read_and_play(file, &mut results, &mut log) {
+        Err(refused) => writeln!(out, "{refused}"),
+        Ok((layout, played)) => {
+            writeln!(
+                out,
+                "run threads {} keys {} operations {} steps {} idle {} snapshots {}",
+                layout.threads,
+                layout.keys,
+                layout.operations,
+                layout.steps,
+                played.idle,
+                played.snapshots
+            )?;
+            print_operations(out, file, &layout, &results)?;
+            print_log(out, &log, played.entries)
+        }
     }
-    let r = runfile::read(file);
-    print_head(out, r, told)?;
-    print_operations(out, file, r, &results)?;
-    print_log(out, told.entries, &log)
+}
+
+// The start of an input, one byte more than any accepted file has: reading tells of these bytes what it tells of the whole
+// (`kept_same` of the crate `runfile`).
+pub fn read_kept<R: Read>(alloc: Global, input: &mut R) -> io::Result<Vec<u8>>
+    ensures start { IfOk result (λ kept. IfSome (R.remaining input.old) (λ whole. kept.items ≡ take (longest + 1) whole)) }
+    ensures same { IfOk result (λ kept. IfSome (R.remaining input.old) (λ whole. read_of kept.items ≡ read_of whole)) }
+{
+    let mut kept = Vec::new(alloc);
+    // stays: `as`, since neither Rust nor the kit has `u64::from(usize)`
+    input.take(runfile::KEPT as u64).read_to_end(&mut kept)?;
+    Ok(kept)
+}
+
+#[cfg(test)]
+mod tests {
+    use super::*;
+    use std::test::Fail;
+
+    #[test]
+    fn keeps_a_short_input_whole(rt: HostRuntime) -> Result<(), Fail> {
+        let kept = read_kept(rt.alloc(), &mut "a short one".as_bytes())?;
+        assert_eq!(rt; kept.as_slice(), "a short one".as_bytes());
+        Ok(())
+    }
+
+    #[test]
+    fn keeps_the_start_of_a_long_input(rt: HostRuntime) -> Result<(), Fail> {
+        let kept = read_kept(rt.alloc(), &mut io::repeat(7))?;
+        assert_eq!(rt; kept.len(), 4199);
+        assert!(rt; kept.iter().all(|byte| *byte == 7));
+        Ok(())
+    }
 }

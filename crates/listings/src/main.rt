@@ -2,117 +2,60 @@
 // files. What an accepted file holds is written again, and must be that file.
 #![tactic(auto)]
 
-ghost use Rattle.std.specs.Prelude.{◌≡◌, ◌+◌, ◌<◌, ◌≤◌, length, IfOk};
+ghost use Rattle.std.specs.Prelude.{◌≡◌};
 ghost use Rattle.runfile.specs.Read.{read_of};
-ghost use Rattle.runfile.specs.Contents.{longest};
+ghost use Rattle.runfile.specs.Answers.{reading_of};
 
-use arrayvec::ArrayString;
-use runfile::Reading;
-use std::fs::File;
-use std::io::{Read, Write};
+use runfile::{Contents, Layout};
+use std::alloc::Global;
+use std::io::Write;
 use std::rt::Files;
 use std::{fs, io};
 
-// One byte more than any accepted file has: a longer file is told from these (`kept_same` of the crate `runfile`).
-// Made here, so that no proof looks into so long a list.
-fn room() -> [u8; runfile::KEPT]
-    ensures { longest + 1 ≡ length result }
-{
-    [0; runfile::KEPT]
-}
-
 // Whether the writer makes the file of what was read of it.
-fn is_remade(file: &[u8], r: Reading, out: &mut [u8]) -> bool
-    requires { (r ≡ read_of file.now) × (r.number ≡ 0) }
+#[tactic(auto, using(runfile::proofs::Answers::layout_accepts))]
+fn is_remade(alloc: Global, file: &[u8], layout: &Layout) -> io::Result<bool>
+    requires { reading_of (Ok layout.now) ≡ read_of file.now }
 {
-    let counts = r.counts;
-    let threads = r.threads as usize;
-    let operations = r.operations_at;
-    let schedule = r.schedule_at;
-    let w = runfile::write(
-        r.threads,
-        r.keys,
-        &counts[..threads],
-        &file[operations..schedule],
-        &file[schedule..],
-        out,
-    );
-    if w.length <= out.len() {
-        return &out[..w.length] == file;
-    }
-    false
+    let contents = Contents {
+        threads: layout.threads,
+        keys: layout.keys,
+        counts: &layout.counts[..usize::from(layout.threads)],
+        operations: &file[layout.operations_at..layout.schedule_at],
+        schedule: &file[layout.schedule_at..],
+    };
+    let mut again = vec![in alloc; 0; file.len()]?;
+    let written = runfile::write(contents, &mut again);
+    Ok(written == Ok(file.len()) && again.as_slice() == file)
 }
 
 // Nothing is printed where all is well.
-fn write_again<W: Write>(out: &mut W, file: &[u8]) -> io::Result<()> {
-    let r = runfile::read(file);
-    if r.number != 0 {
-        return Ok(());
+fn write_again<W: Write>(alloc: Global, out: &mut W, file: &[u8]) -> io::Result<()> {
+    match runfile::read(file) {
+        Ok(layout) if !is_remade(alloc, file, &layout)? => writeln!(out, "not made again"),
+        _ => Ok(()),
     }
-    let mut again = room();
-    if is_remade(file, r, &mut again) {
-        return Ok(());
-    }
-    out.write_all(b"not made again\n")
-}
-
-// Reads until buf is full or the input ends, and answers how many bytes it put there.
-fn read_full<R: Read>(input: &mut R, buf: &mut [u8]) -> io::Result<usize>
-    ensures { IfOk result (λ n. n ≤ length buf.new) }
-{
-    let mut done: usize = 0;
-    while done < buf.len() {
-        let more = input.read(&mut buf[done..])?;
-        if more == 0 {
-            break;
-        }
-        done += more;
-    }
-    Ok(done)
 }
 
 // Whether there is such a file.
-fn print_file<R: Files + Print>(rt: &R, name: &str) -> io::Result<bool> {
-    let mut file = match fs::open(rt, name) {
-        Ok(file) => file,
-        Err(_) => return Ok(false),
+fn print_file<R: Files + Print + AllocGlobal>(rt: &R, name: &str) -> io::Result<bool> {
+    let Ok(mut file) = fs::open(rt, name) else {
+        return Ok(false);
     };
-    let mut buf = room();
-    let got = read_full(&mut file, &mut buf)?;
+    let kept = listing::read_kept(rt.alloc(), &mut file)?;
     println!(rt; "{name}")?;
     let mut out = io::writer(rt);
-    listing::print_run(&mut out, &buf[..got])?;
-    write_again(&mut out, &buf[..got])?;
+    listing::print_run(&mut out, &kept)?;
+    write_again(rt.alloc(), &mut out, &kept)?;
     Ok(true)
 }
 
-fn print_worked<R: Files + Print>(rt: &R, letter: u8) -> io::Result<bool> {
-    let mut name = [0u8; 4];
-    print_file(rt, char::from(letter).encode_utf8(&mut name))
-}
-
-// A digit of n: n / by, of which the last digit counts.
-fn digit(n: u32, by: u32) -> char
-    requires { 0 < by }
-    ensures { result < 128 }
-{
-    char::from(b'0' + (n / by % 10) as u8)
-}
-
-fn print_numbered<R: Files + Print>(rt: &R, n: u32) -> io::Result<bool> {
-    let mut name = ArrayString::<3>::new();
-    name.push(digit(n, 100));
-    name.push(digit(n, 10));
-    name.push(digit(n, 1));
-    print_file(rt, name.as_str())
-}
-
 fn main(rt: HostRuntime) -> io::Result<()> {
-    for letter in b'A'..=b'I' {
-        print_worked(&rt, letter)?;
+    for letter in 'A'..='I' {
+        print_file(&rt, format!(in rt.alloc(); "{letter}")?.as_str())?;
     }
     for n in 0..1000 {
-        if !print_numbered(&rt, n)? {
+        if !print_file(&rt, format!(in rt.alloc(); "{n:03}")?.as_str())? {
             break;
         }
     }

@@ -3,6 +3,7 @@ use Prim.Native.Nat.{ℕ, suc, zero}
 use mathlib.Core.Path.{◌≡◌, refl, sym, ap, ◌∙◌}
 use mathlib.Core.List.{List, [], ◌∷◌}
 use lib.ListN.{get_or, set}
+use Rattle.std.proofs.lemmas.List.{set-get_or}
 use Rattle.terms.specs.declared.ThreadId.{ThreadId}
 use Rattle.terms.specs.declared.OpId.{OpId}
 use Rattle.terms.specs.declared.SnapshotId.{SnapshotId}
@@ -28,12 +29,6 @@ use Rattle.machine.specs.Parts.{answered_by, goes_by, raised_record}
 use Rattle.machine.proofs.Changes.{acted_by}
 
 module _ {A : Type 0} (d : A) where
-  -- a store of what is there changes nothing
-  pub same : (l : List A) (i : ℕ) → set l i (get_or l i d) ≡ l
-  same [] i = refl
-  same (x ∷ l) zero = refl
-  same (x ∷ l) (suc i) = ap (λ (r : List A). x ∷ r) (same l i)
-
   -- two changes of one element are one
   pub twice : (f g : A → A) (l : List A) (i : ℕ) → set (set l i (f (get_or l i d))) i (g (get_or (set l i (f (get_or l i d))) i d)) ≡ set l i (g (f (get_or l i d)))
   twice f g [] i = refl
@@ -115,7 +110,7 @@ module _ (m : Machine) (t : ThreadId) (o : OpId) where
   same_key = kept no_record (λ (r : Record). r.asked.key) (counted step) (λ r. refl) m.records o.0
 
   still : m.slots ≡ set m.slots key (record { content = (get_or m.slots key no_slot).content })
-  still = sym (same no_slot m.slots key)
+  still = sym (set-get_or m.slots key no_slot)
 
   stored : (c : Content) → set m.slots (get_or counts o.0 no_record).asked.key (record { content = c }) ≡ set m.slots key (record { content = c })
   stored c = ap (λ (k : ℕ). set m.slots k (record { content = c })) same_key

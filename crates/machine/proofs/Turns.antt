@@ -5,6 +5,7 @@ use mathlib.Core.Path.{◌≡◌, refl, sym, ap, subst, ◌∙◌}
 use mathlib.Core.Bool.{Bool, true, false, cond, not}
 use mathlib.Core.List.{List, [], ◌∷◌}
 use lib.ListN.{get_or, set}
+use Rattle.std.proofs.lemmas.List.{set-get_or}
 use lib.Dec.{eqb}
 use Rattle.terms.specs.declared.ThreadId.{ThreadId}
 use Rattle.terms.specs.declared.OpId.{OpId}
@@ -18,14 +19,12 @@ use Rattle.figures.specs.declared.Calculator.{Calculator}
 use Rattle.figures.specs.declared.Sight.{Sight}
 use Rattle.figures.specs.declared.UpdatePoint.{UpdatePoint}
 use Rattle.figures.specs.declared.UpdatePoint.TheVariants.{ReadCount, RaiseCount, ReadCurrent, ReadFlag, ReadAgain, ReadCell, Forward}
-use Rattle.figures.specs.declared.UpdateDeed.{UpdateDeed}
 use Rattle.figures.specs.declared.UpdateDeed.TheVariants.{Reads, Raises, Forwards}
 use Rattle.figures.specs.declared.UpdateMove.{UpdateMove}
 use Rattle.figures.specs.declared.UpdateNext.TheVariants.{Done}
 use Rattle.figures.specs.declared.SizePoint.{SizePoint}
 use Rattle.figures.specs.declared.SizePoint.TheVariants.{FindCurrent, FindFlag, Announce, CollectCount, CollectCell, CollectSet, LowerFlag, SumCell, FixSize}
-use Rattle.figures.specs.declared.SizeDeed.{SizeDeed}
-use Rattle.figures.specs.declared.SizeDeed.TheVariants.{Looks, Announces, Collects, Lowers, Keeps, Fixes, Shares}
+use Rattle.figures.specs.declared.SizeDeed.TheVariants.{Looks, Announces, Collects, Fixes, Shares}
 use Rattle.figures.specs.declared.SizeMove.{SizeMove}
 use Rattle.figures.specs.declared.SizeNext.TheVariants.{Goes, Sized}
 use Rattle.figures.specs.declared.Content.{Content}
@@ -37,20 +36,18 @@ use Rattle.figures.specs.declared.After.TheVariants.{ToUnlink}
 use Rattle.figures.specs.declared.Node.{Node}
 use Rattle.figures.specs.declared.Point.{Point}
 use Rattle.figures.specs.declared.Point.TheVariants.{Idle, ReadSlot, Updating, CountInsertions, Link, HelpUnlink, CountDeletions, Mark, Unlink, Sizing}
-use Rattle.figures.specs.declared.Deed.{Deed}
-use Rattle.figures.specs.declared.Deed.TheVariants.{Rests, Finds, Links, Marks, Unlinks, Updates, Sizes}
+use Rattle.figures.specs.declared.Deed.TheVariants.{Rests, Marks, Unlinks}
 use Rattle.figures.specs.declared.Move.{Move}
-use Rattle.figures.specs.declared.Slot.{Slot}
 use Rattle.figures.specs.declared.Local.{Local}
 use Rattle.figures.specs.declared.Record.{Record}
 use Rattle.figures.specs.declared.Machine.{Machine}
-use Rattle.figures.specs.Limits.{invalid}
-use Rattle.figures.specs.Figure4.{more, both, with_count, count_at, set_count, new_id, snapshot_at, no_snapshot, no_trace, sight_of}
+use Rattle.figures.specs.Limits.{most_threads, invalid}
+use Rattle.figures.specs.Figure4.{more, both, block_of, count_of, with_count, count_at, set_count, new_id, snapshot_at, no_snapshot, no_trace, sight_of}
 use Rattle.figures.specs.Figure5.{none}
 use Rattle.figures.specs.Figure6.{behind, on_to, done, go_to, first_cell, total_of}
 use Rattle.figures.specs.Figure3.{update, deletion, node_of, goes_to, link, is_live, is_marked, updating, sizing, cell_of, looks_at_cell, looks_at_snapshot}
-use Rattle.figures.specs.Step.{no_slot, with_calculator, stands_at, access_of, move_of, accessed, idled, step_of}
-use Rattle.figures.proofs.Laws.{tests_differ}
+use Rattle.figures.specs.Step.{with_calculator, stands_at, access_of, move_of, accessed, idled, step_of}
+use Rattle.figures.proofs.Laws.{replicate_holds}
 use Rattle.calculator.specs.declared.exchange.Exchange.TheVariants.{OfFlag, Anew}
 use Rattle.calculator.specs.declared.request.Request.{Request}
 use Rattle.calculator.specs.declared.request.Request.TheVariants.{Nothing, Exchanges}
@@ -58,10 +55,9 @@ use Rattle.calculator.specs.Exchanges.{absent, exchanged_of}
 use Rattle.calculator.specs.Requests.{record_in, sight_by, heard, counters_by, table_by, current_by, traces_by}
 use Rattle.accesses.specs.Requests.{request_at}
 use Rattle.machine.specs.declared.Rest.{Rest}
-use Rattle.machine.specs.Parts.{quiet, held_by, raised_by, stood_by, recorded_by, whole_of, local_in, own_in, held_in, is_busy, window_now, asks_of, request_of, move_in, taken_of, idled_of, decided_of}
+use Rattle.machine.specs.Parts.{whole_of, local_in, own_in, held_in, is_busy, asks_of, request_of, move_in, taken_of, idled_of, decided_of}
 use Rattle.machine.proofs.Changes.{updated_by, sized_by, calculated_by, acted_by}
-use Rattle.machine.proofs.Together.{same, together}
-use Rattle.machine.proofs.Zeros.{no_cell}
+use Rattle.machine.proofs.Together.{together}
 
 -- ---- Defaults. Which one a read past the end gives does not matter to what is the same of both, nor to a store there.
 
@@ -76,6 +72,10 @@ module _ {A : Type 0} where
   either_store f d e [] i = refl
   either_store f d e (x ∷ l) zero = refl
   either_store f d e (x ∷ l) (suc i) = ap (λ (r : List A). x ∷ r) (either_store f d e l i)
+
+-- a cell of a record that is not there is 0
+no_cell : (j : Cell) → count_at (block_of 0) j ≡ count_at [] j
+no_cell j = ap (count_of j.kind) (replicate_holds (λ (c : Counts). c ≡ both 0) most_threads j.thread.0 (both 0) (both 0) refl refl)
 
 -- the moves that change something, and a record with another cell
 abbrev forwarded : Bool → SnapshotId → UpdateMove
@@ -197,7 +197,7 @@ module _ (t : ThreadId) (o : OpId) (k : Call) (threads : ℕ) (seen : List Count
   built e f g h = cc
 
   same_trace : (n : SnapshotId) → c.traces ≡ set c.traces n.0 (get_or c.traces n.0 no_trace)
-  same_trace n = sym (same no_trace c.traces n.0)
+  same_trace n = sym (set-get_or c.traces n.0 no_trace)
 
   -- record n is s now, and nothing else changed
   abbrev changed : Snapshot → SnapshotId → Calculator
@@ -221,7 +221,7 @@ module _ (t : ThreadId) (o : OpId) (k : Call) (threads : ℕ) (seen : List Count
   unasked n = built refl refl refl (same_trace n)
 
   unchanged : (n : SnapshotId) → c ≡ changed (found n) n
-  unchanged n = built refl refl (sym (same absent c.snapshots n.0)) (same_trace n)
+  unchanged n = built refl refl (sym (set-get_or c.snapshots n.0 absent)) (same_trace n)
 
   read_only : (p : UpdatePoint) (h : Bool) (u : Update) (b : Bool) → updated_by (cond b (on_to p) (done h)).deed u c ≡ c
   read_only p h u true = refl
@@ -240,7 +240,7 @@ module _ (t : ThreadId) (o : OpId) (k : Call) (threads : ℕ) (seen : List Count
             traces = set c.traces 0 (get_or c.traces 0 no_trace);
           }
       go true = built refl refl refl (same_trace none)
-      go false = built (sym (same (both 0) c.counters (cell_of u).thread.0)) refl refl (same_trace none)
+      go false = built (sym (set-get_or c.counters (cell_of u).thread.0 (both 0))) refl refl (same_trace none)
 
   forwards : (h : Bool) (n : SnapshotId) (known : ℕ) (u : Update) (a : After) → Changes (Updating (Forward h n known) u a)
   forwards h n known u a = go (eqb (count_at (found n).cells (cell_of u)) known)
@@ -342,37 +342,6 @@ module _ (t : ThreadId) (o : OpId) (k : Call) (threads : ℕ) (seen : List Count
   changes (Unlink n d) = unlinks (is_marked n d held) ∙ unasked none
   changes (Sizing p) = size_changes p
 
--- ---- A deed that is quiet changes neither the calculator nor a slot, and raises nothing.
-
-module _ (step : ℕ) (seen : List Counts) (c : Calculator) (h : Content) where
-  pub record Still (d : Deed) : Type 0 where
-    pub calculator : calculated_by d step seen c ≡ c
-    pub held : held_by d h ≡ h
-    pub raised : (w : SnapshotId) (t : ThreadId) (rs : List Record) → raised_by d step w t rs ≡ rs
-
-  updates_still : (d : UpdateDeed) (u : Update) → quiet (Updates d u) ≡ true → Still (Updates d u)
-  updates_still Reads u e = record { calculator = refl; held = refl; raised = λ w t rs. refl }
-  updates_still Raises u e = tests_differ e refl
-  updates_still (Forwards n) u e = tests_differ e refl
-
-  sizes_still : (d : SizeDeed) → quiet (Sizes d) ≡ true → Still (Sizes d)
-  sizes_still Looks e = record { calculator = refl; held = refl; raised = λ w t rs. refl }
-  sizes_still Announces e = tests_differ e refl
-  sizes_still (Collects n j v) e = tests_differ e refl
-  sizes_still (Lowers n) e = tests_differ e refl
-  sizes_still (Keeps j v) e = record { calculator = refl; held = refl; raised = λ w t rs. refl }
-  sizes_still (Fixes n v) e = tests_differ e refl
-  sizes_still (Shares n) e = record { calculator = refl; held = refl; raised = λ w t rs. refl }
-
-  pub still : (d : Deed) → quiet d ≡ true → Still d
-  still Rests e = record { calculator = refl; held = refl; raised = λ w t rs. refl }
-  still (Finds f) e = record { calculator = refl; held = refl; raised = λ w t rs. refl }
-  still (Links n) e = tests_differ e refl
-  still (Marks n d) e = tests_differ e refl
-  still Unlinks e = tests_differ e refl
-  still (Updates d u) e = updates_still d u e
-  still (Sizes d) e = sizes_still d e
-
 -- ---- The whole step.
 
 module _ (m : Rest) (counters : List Counts) (table : List Snapshot) (t : ThreadId) where
@@ -410,52 +379,6 @@ module _ (m : Rest) (counters : List Counts) (table : List Snapshot) (t : Thread
       whole_of (taken_of m t w) (counters_by (asks_of m t) counters) (table_by (asks_of m t) table) ≡ accessed whole t
   taken_steps w e = subst
       (λ (v : ℕ). whole_of (taken_of m t v) (counters_by (asks_of m t) counters) (table_by (asks_of m t) table) ≡ accessed whole t) (sym e) taken
-
-  -- after a quiet turn nothing is stored but the operation's record and the thread
-  abbrev pub glanced : Move → Rest
-  glanced v =
-      record {
-        threads = m.threads;
-        keys = m.keys;
-        clock = more m.clock;
-        idle = m.idle;
-        current = m.current;
-        traces = m.traces;
-        slots = m.slots;
-        locals = set m.locals t.0 (stood_by v.deed v.next l);
-        records = set m.records l.op.0 (recorded_by (more m.clock) v.deed v.next r);
-      }
-
-  glances : quiet (move_in m t w₀).deed ≡ true → whole_of (glanced (move_in m t w₀)) counters table ≡ accessed whole t
-  glances q =
-      let z = still (more m.clock) l.seen whole.calculator (held_in m t) (move_in m t w₀).deed q in
-      wholes (sym z.calculator)
-      (sym (ap (λ (h : Content). set m.slots r.asked.key (record { content = h })) z.held
-      ∙ same no_slot m.slots r.asked.key))
-      (sym (z.raised (window_now m) t
-      (set m.records l.op.0 (recorded_by (more m.clock) (move_in m t w₀).deed (move_in m t w₀).next r))))
-      ∙ steps
-    where
-      whole' : Calculator → List Slot → List Record → Machine
-      whole' c s o =
-          record {
-            threads = m.threads;
-            keys = m.keys;
-            clock = more m.clock;
-            idle = m.idle;
-            calculator = c;
-            slots = s;
-            locals = set m.locals t.0 (stood_by (move_in m t w₀).deed (move_in m t w₀).next l);
-            records = o;
-          }
-
-      wholes : {c c' : Calculator} {s s' : List Slot} {o o' : List Record} → c ≡ c' → s ≡ s' → o ≡ o' → whole' c s o ≡ whole' c' s' o'
-      wholes e f g = cc
-
-  pub glanced_steps : (w : ℕ) → w ≡ heard (asks_of m t) counters table → quiet (move_in m t w).deed ≡ true →
-      whole_of (glanced (move_in m t w)) counters table ≡ accessed whole t
-  glanced_steps w e = subst
-      (λ (v : ℕ). quiet (move_in m t v).deed ≡ true → whole_of (glanced (move_in m t v)) counters table ≡ accessed whole t) (sym e) glances
 
   -- the rest after a step, with the counters and the table after its request, is the machine after the step
   pub decided_steps : (w : ℕ) → w ≡ heard (request_of m t) counters table →

@@ -1,8 +1,7 @@
 -- What an access changes, part by part: of its operation's record, of its thread, of its slot; and a whole step of a machine without its
 -- counters and its table of snapshots, by what the step asks of these and the one number that it hears. The contracts of the functions
--- that make these changes cite them; that they make up a step is proved in proofs/Together.antt, proofs/Turns.antt and
--- proofs/Stored.antt.
-use Rattle.std.specs.Prelude.{ℕ, suc, Bool, true, false, cond, List, get_or, set, ltb}
+-- that make these changes cite them; that they make up a step is proved in proofs/Together.antt and proofs/Turns.antt.
+use Rattle.std.specs.Prelude.{ℕ, Bool, cond, List, get_or, set, ltb}
 use Rattle.terms.specs.declared.ThreadId.{ThreadId}
 use Rattle.terms.specs.declared.OpId.{OpId}
 use Rattle.terms.specs.declared.SnapshotId.{SnapshotId}
@@ -23,15 +22,13 @@ use Rattle.figures.specs.declared.Record.{Record}
 use Rattle.figures.specs.declared.Move.{Move}
 use Rattle.figures.specs.declared.Snapshot.{Snapshot}
 use Rattle.figures.specs.declared.Machine.{Machine}
-use Rattle.figures.specs.Limits.{most_threads, most_operations}
 use Rattle.figures.specs.Figure4.{more, block_of, set_count, no_trace}
 use Rattle.figures.specs.Step.{no_slot, no_local, no_record, with_look, with_used, counted, answered, exchanged_at, raised_at, with_seen, standing, finished, stands_at, access_of}
 use Rattle.calculator.specs.declared.request.Request.{Request}
-use Rattle.calculator.specs.declared.request.Request.TheVariants.{Nothing, Count, Raise, Flag, Value, Exchanges}
+use Rattle.calculator.specs.declared.request.Request.TheVariants.{Nothing}
 use Rattle.calculator.specs.Exchanges.{window_in}
 use Rattle.calculator.specs.Requests.{sight_by, current_by, traces_by}
 use Rattle.accesses.specs.Requests.{request_at}
-use Rattle.machine.specs.declared.Turn.{Turn}
 use Rattle.machine.specs.declared.Rest.{Rest}
 
 -- ---- Of the operation's record: the step is counted; what the deed tells of it; the answer.
@@ -118,73 +115,12 @@ raised_by Unlinks step w t rs = rs
 raised_by (Updates d u) step w t rs = raises_by d u step w t rs
 raised_by (Sizes d) step w t rs = rs
 
--- the code's number of that operation, 255 where none is raised
-abbrev pub raises_op : UpdateDeed → Update → OpId
-raises_op Reads u = record { 0 = 255 }
-raises_op Raises u = u.node.op
-raises_op (Forwards n) u = record { 0 = 255 }
-
-abbrev pub raised_op : Deed → OpId
-raised_op Rests = record { 0 = 255 }
-raised_op (Finds c) = record { 0 = 255 }
-raised_op (Links n) = record { 0 = 255 }
-raised_op (Marks n d) = record { 0 = 255 }
-raised_op Unlinks = record { 0 = 255 }
-raised_op (Updates d u) = raises_op d u
-raised_op (Sizes d) = record { 0 = 255 }
-
 -- ---- A turn: what an access gives that heard this number, from the small parts that it is told.
 
 -- the access itself, by thread t of so many, in the operation of record r, on a slot that holds this
 abbrev pub move_by : ThreadId → ℕ → Local → Record → Content → SnapshotId → ℕ → Move
 move_by t threads l r held current heard =
     access_of (stands_at l.point r.asked.call) t l.op r.asked.call threads l.seen (sight_by heard current) held
-
--- a deed that changes nothing but its operation's record and its thread
-abbrev pub reads_only : UpdateDeed → Bool
-reads_only Reads = true
-reads_only Raises = false
-reads_only (Forwards n) = false
-
-abbrev pub looks_only : SizeDeed → Bool
-looks_only Looks = true
-looks_only Announces = false
-looks_only (Collects n j v) = false
-looks_only (Lowers n) = false
-looks_only (Keeps j v) = true
-looks_only (Fixes n v) = false
-looks_only (Shares n) = true
-
-abbrev pub quiet : Deed → Bool
-quiet Rests = true
-quiet (Finds c) = true
-quiet (Links n) = false
-quiet (Marks n d) = false
-quiet Unlinks = false
-quiet (Updates d u) = reads_only d
-quiet (Sizes d) = looks_only d
-
-abbrev pub turn_by : Move → ℕ → Local → Record → Content → Turn
-turn_by v step l r held =
-    record {
-      own = recorded_by step v.deed v.next r;
-      local = stood_by v.deed v.next l;
-      held = held_by v.deed held;
-      raised = raised_op v.deed;
-      quiet = quiet v.deed;
-    }
-
-abbrev pub turn_of : ThreadId → ℕ → ℕ → Local → Record → Content → SnapshotId → ℕ → Turn
-turn_of t step threads l r held current heard = turn_by (move_by t threads l r held current heard) step l r held
-
--- what a request names is there in a machine's own counters and table
-abbrev pub there_of : Request → Bool
-there_of Nothing = true
-there_of (Count j) = ltb j.thread.0 most_threads
-there_of (Raise j c) = ltb j.thread.0 most_threads
-there_of (Flag n) = ltb n.0 (suc most_operations)
-there_of (Value n j) = ltb n.0 (suc most_operations)
-there_of (Exchanges n x) = ltb n.0 (suc most_operations)
 
 -- a machine is the counters, the table of snapshots, and the rest
 abbrev pub whole_of : Rest → List Counts → List Snapshot → Machine

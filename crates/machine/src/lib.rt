@@ -1,35 +1,26 @@
-// A step of a thread and a whole schedule. What an access changes, part by part, is in parts.rt, one access over the small parts that
-// it is told of in told.rt; the arrays stay where the loop is, and each step loads a few of their elements, takes its turn and stores
-// them. What each must yield is defined in the crate `figures`.
+// A step of a thread and a whole schedule, over counters and a table of snapshots that are lent: what the thread asks of these, the one
+// access, and what follows from the number heard. What an access changes, part by part, is in parts.rt. What each must yield is defined
+// in the crate `figures`.
 #![tactic(auto)]
 
 mod parts;
-pub mod told;
 
-ghost use Rattle.std.specs.Prelude.{◌≡◌, true};
-ghost use Rattle.figures.specs.Step.{step_of, run_of};
-ghost use Rattle.machine.specs.Parts.{whole_of, rest_of, is_busy, request_of, taken_of, idled_of, decided_of};
+ghost use Rattle.std.specs.Prelude.{◌≡◌, true, ◌<◌, get_or, set};
+ghost use Rattle.figures.specs.Limits.{most_threads};
+ghost use Rattle.figures.specs.Step.{no_record, no_slot, step_of, run_of};
+ghost use Rattle.calculator.specs.Requests.{traces_by};
+ghost use Rattle.machine.specs.Parts.{recorded_by, raised_by, whole_of, rest_of, is_busy, window_now, asks_of, move_in, request_of, decided_of};
 
-use calculator::figure4::{THREADS, one_more};
-use calculator::request::{Request, current_by};
-use figures::{Calculator, Content, Counts, Local, Machine, Record, Slot, Snapshot, Trace};
-use terms::{OpId, SnapshotId, ThreadId};
-use told::{
-    asks, content_or_empty, counter_in, hears, is_busy, own_or_same, pair_after, raised_or_same,
-    record_after, record_at, record_in, record_or_none, slot_at, slot_or_same, snapshot_at,
-    thread_at, trace_after, turn_of, window_in,
+use accesses::{access, request, stands_at};
+use calculator::figure4::{sight_by, window_of};
+use calculator::request::Request;
+use figures::{
+    Asked, Calculator, Content, Counts, Deed, KEYS, Local, Machine, Move, Record, SNAPSHOTS, Slot,
+    Snapshot, THREADS, Trace, UpdateDeed, no_record,
 };
-
-// What an access gives: its operation's record, the thread, the slot's content, the operation that it raised (255: none), and whether it
-// changed the first two alone.
-#[derive(Clone, Copy)]
-pub struct Turn {
-    pub own: Record,
-    pub local: Local,
-    pub held: Content,
-    pub raised: OpId,
-    pub quiet: bool,
-}
+use lending::perform;
+use parts::{held_after, raised_at, recorded, stood};
+use terms::{OpId, SnapshotId, ThreadId};
 
 // A machine without its counters and its table of snapshots, which may be lent.
 #[derive(Clone, Copy)]
@@ -39,195 +30,262 @@ pub struct Rest {
     pub clock: u32,
     pub idle: u32,
     pub current: SnapshotId,
-    pub traces: [Trace; Machine::OPERATIONS + 1],
-    pub slots: [Slot; Machine::KEYS as usize],
+    pub traces: [Trace; SNAPSHOTS],
+    pub slots: [Slot; KEYS],
     pub locals: [Local; THREADS],
     pub records: [Record; Machine::OPERATIONS],
 }
 
+// stays: no `From`, since the counters and the table are left out.
 pub fn rest_of(m: Machine) -> Rest
     ensures { result ≡ rest_of m }
 {
-    let c = m.calculator;
-    let traces = c.traces;
-    let slots = m.slots;
-    let locals = m.locals;
-    let records = m.records;
-    let current = c.current;
+    let Machine {
+        threads,
+        keys,
+        clock,
+        idle,
+        calculator: Calculator {
+            current,
+            traces,
+            ..
+        },
+        slots,
+        locals,
+        records,
+    } = m;
     Rest {
-        threads: m.threads,
-        keys: m.keys,
-        clock: m.clock,
-        idle: m.idle,
-        current: current,
-        traces: traces,
-        slots: slots,
-        locals: locals,
-        records: records,
+        threads,
+        keys,
+        clock,
+        idle,
+        current,
+        traces,
+        slots,
+        locals,
+        records,
     }
 }
 
-pub fn whole_of(
-    m: Rest,
-    counters: [Counts; THREADS],
-    table: [Snapshot; Machine::OPERATIONS + 1],
-) -> Machine
+pub fn whole_of(m: Rest, counters: [Counts; THREADS], table: [Snapshot; SNAPSHOTS]) -> Machine
     ensures { result ≡ whole_of m counters table }
 {
-    let traces = m.traces;
-    let slots = m.slots;
-    let locals = m.locals;
-    let records = m.records;
-    let current = m.current;
-    let c = Calculator {
-        counters: counters,
-        current: current,
-        snapshots: table,
-        traces: traces,
-    };
+    let Rest {
+        threads,
+        keys,
+        clock,
+        idle,
+        current,
+        traces,
+        slots,
+        locals,
+        records,
+    } = m;
     Machine {
-        threads: m.threads,
-        keys: m.keys,
-        clock: m.clock,
-        idle: m.idle,
-        calculator: c,
-        slots: slots,
-        locals: locals,
-        records: records,
+        threads,
+        keys,
+        clock,
+        idle,
+        calculator: Calculator {
+            counters,
+            current,
+            snapshots: table,
+            traces,
+        },
+        slots,
+        locals,
+        records,
     }
 }
 
-// ---- A step in two halves, for who holds the counters and the table: what thread t asks of them, and the rest after it heard a number.
+impl Rest {
+    // Whether thread t is there and has an operation left.
+    fn is_busy(&self, t: ThreadId) -> bool
+        ensures value { result ≡ is_busy self.now t }
+        ensures there { result ≡ true → t.0 < most_threads }
+    {
+        let k = usize::from(t.0);
+        k < THREADS && self.locals[k].op < self.locals[k].end
+    }
 
-pub fn asked(m: Rest, t: ThreadId) -> Request
-    ensures { result ≡ request_of m t }
-{
-    let k = thread_at(t);
-    let l = m.locals[k];
-    if is_busy(t, l) {
-        let o = l.op;
-        let e = record_at(o);
-        let r = record_or_none(o, m.records[e]);
-        let a = r.asked;
-        let current = m.current;
-        asks(t, l, a, current)
-    } else {
-        Request::Nothing
+    fn record_in(&self, o: OpId) -> Record
+        ensures { result ≡ get_or self.now.records o.0 no_record }
+    {
+        self.records
+            .get(usize::from(o.0))
+            .copied()
+            .unwrap_or(no_record())
+    }
+
+    fn content_in(&self, key: u8) -> Content
+        ensures { result ≡ (get_or self.now.slots key no_slot).content }
+    {
+        self.slots
+            .get(usize::from(key))
+            .map_or(Content::Empty, |s| s.content)
+    }
+
+    // The snapshot that is being collected.
+    fn window(&self) -> SnapshotId
+        ensures { result ≡ window_now self.now }
+    {
+        let closed = self
+            .traces
+            .get(usize::from(self.current.0))
+            .map_or(0, |t| t.closed);
+        window_of(self.current, closed)
+    }
+
+    // What the access of a thread asks that is there.
+    fn request_in(&self, t: ThreadId) -> Request
+        requires { t.0 < most_threads }
+        ensures { result ≡ asks_of self.now t }
+    {
+        let l = &self.locals[usize::from(t.0)];
+        let p = stands_at(l.point, self.record_in(l.op).asked.call);
+        request(p, t, self.current, &l.seen)
+    }
+
+    // The access itself, which heard this number.
+    fn move_in(&self, t: ThreadId, heard: u32) -> Move
+        requires { t.0 < most_threads }
+        ensures { result ≡ move_in self.now t heard }
+    {
+        let l = &self.locals[usize::from(t.0)];
+        let Asked { call, key, .. } = self.record_in(l.op).asked;
+        let p = stands_at(l.point, call);
+        let s = sight_by(heard, self.current);
+        access(
+            p,
+            t,
+            l.op,
+            call,
+            self.threads,
+            &l.seen,
+            s,
+            self.content_in(key),
+        )
+    }
+
+    // The first half of a step of thread t: what it asks of the counters and of the table.
+    pub fn asked(&self, t: ThreadId) -> Request
+        ensures { result ≡ request_of self.now t }
+    {
+        if self.is_busy(t) {
+            self.request_in(t)
+        } else {
+            Request::Nothing
+        }
+    }
+
+    // What the turn tells of its own operation. Here as below nothing is stored beyond an array's end, by a test and an index: of what is
+    // written through a slice's `get_mut` a proof knows no element.
+    fn record_turn(&mut self, o: OpId, v: Move)
+        ensures { self.new ≡ record self.old { records = set self.old.records o.0 (recorded_by self.old.clock v.deed v.next (get_or self.old.records o.0 no_record)) } }
+    {
+        let k = usize::from(o.0);
+        if k < self.records.len() {
+            recorded(&mut self.records[k], self.clock, v);
+        }
+    }
+
+    // Of the operation that thread t raises, whose ever it is, while snapshot w is being collected.
+    fn record_raising(&mut self, d: Deed, w: SnapshotId, t: ThreadId)
+        ensures { self.new ≡ record self.old { records = raised_by d self.old.clock w t self.old.records } }
+    {
+        if let Deed::Updates(UpdateDeed::Raises, u) = d {
+            let k = usize::from(u.node.op.0);
+            if k < self.records.len() {
+                raised_at(&mut self.records[k], self.clock, w, t);
+            }
+        }
+    }
+
+    fn store_content(&mut self, key: u8, content: Content)
+        ensures { self.new ≡ record self.old { slots = set self.old.slots key (record { content = content }) } }
+    {
+        let k = usize::from(key);
+        if k < self.slots.len() {
+            self.slots[k].content = content;
+        }
+    }
+
+    // What the log needs of the record that is asked for, by a thread that has read these values.
+    fn trace_request(&mut self, q: Request, heard: u32, seen: [Counts; THREADS])
+        ensures { self.new ≡ record self.old { traces = traces_by q heard self.old.clock seen self.old.traces } }
+    {
+        let k = usize::from(q.record_of().0);
+        if k < self.traces.len() {
+            q.trace_by(heard, self.clock, &seen, &mut self.traces[k]);
+        }
+    }
+
+    // The second half of a step of thread t, which heard this number of what it asked for.
+    pub fn decided(&mut self, t: ThreadId, heard: u32)
+        ensures { self.new ≡ decided_of self.old t heard }
+    {
+        self.clock = self.clock.wrapping_add(1);
+        if !self.is_busy(t) {
+            self.idle = self.idle.wrapping_add(1);
+            return;
+        }
+        let q = self.request_in(t);
+        let v = self.move_in(t, heard);
+        let w = self.window();
+        let k = usize::from(t.0);
+        let o = self.locals[k].op;
+        let key = self.record_in(o).asked.key;
+        let held = self.content_in(key);
+        self.record_turn(o, v);
+        self.record_raising(v.deed, w, t);
+        self.store_content(key, held_after(held, v.deed));
+        self.trace_request(q, heard, self.locals[k].seen);
+        self.current = q.current_by(self.current);
+        stood(&mut self.locals[k], v);
     }
 }
 
-// The second half for a thread with an operation left, as `play` makes it.
-fn taken(m: Rest, t: ThreadId, heard: u32) -> Rest
-    ensures { is_busy m t ≡ true → result ≡ taken_of m t heard }
+// A step of thread t: what it asks for, the one access, and what follows from the number heard.
+// stays: table, counters and rest side by side, since each has a lender of its own; a struct of them needs a clause on each one's name.
+#[tactic(auto, using(crate::proofs::Turns::decided_steps))]
+pub fn step_lent(table: &mut [Snapshot], block: &mut [Counts; THREADS], m: &mut Rest, t: ThreadId)
+    ensures { whole_of m.new block.new table.new ≡ step_of (whole_of m.old block.old table.old) t }
 {
-    let mut n = m;
-    let step = one_more(m.clock);
-    n.clock = step;
-    let k = thread_at(t);
-    let l = m.locals[k];
-    let o = l.op;
-    let seen = l.seen;
-    let e = record_at(o);
-    let r = record_or_none(o, m.records[e]);
-    let a = r.asked;
-    let q = slot_at(a.key);
-    let held = content_or_empty(a.key, m.slots[q]);
-    let current = m.current;
-    let x = asks(t, l, a, current);
-    let y = record_in(x);
-    let v = turn_of(t, step, m.threads, l, r, held, current, heard);
-    let g = snapshot_at(current);
-    let w = window_in(current, m.traces[g]);
-    n.records[e] = own_or_same(v, o, m.records[e]);
-    let f = record_at(v.raised);
-    n.records[f] = raised_or_same(v, step, w, t, n.records[f]);
-    n.slots[q] = slot_or_same(v, a.key, m.slots[q]);
-    n.traces[y] = trace_after(x, heard, step, seen, m.traces[y]);
-    n.current = current_by(x, current);
-    let stood = v.local;
-    n.locals[k] = stood;
-    n
+    let q = m.asked(t);
+    let heard = perform(table, block, q);
+    m.decided(t, heard);
 }
 
-// For a thread with none left.
-fn idled(m: Rest) -> Rest
-    ensures { result ≡ idled_of m }
+// A whole schedule.
+#[tactic(auto, unfolding(figures::specs::Step::run_of))]
+pub fn play_lent(
+    table: &mut [Snapshot],
+    block: &mut [Counts; THREADS],
+    m: &mut Rest,
+    schedule: &[u8],
+)
+    ensures { whole_of m.new block.new table.new ≡ run_of (whole_of m.old block.old table.old) schedule.now }
 {
-    let mut n = m;
-    n.clock = one_more(m.clock);
-    n.idle = one_more(m.idle);
-    n
-}
-
-pub fn decided(m: Rest, t: ThreadId, heard: u32) -> Rest
-    ensures { result ≡ decided_of m t heard }
-{
-    let k = thread_at(t);
-    let l = m.locals[k];
-    if is_busy(t, l) {
-        taken(m, t, heard)
-    } else {
-        idled(m)
+    for t in schedule {
+        step_lent(table, block, m, ThreadId(*t));
     }
 }
 
-// A whole schedule. The arrays stay in this function's frame, so each step is written out here: what the access is told is loaded, it
-// hears one number of the counters or of one record, the turn is taken by value, and what it gives is stored.
+// A whole schedule, over the machine's own counters and table.
 pub fn play(machine: Machine, schedule: &[u8]) -> Machine
     ensures { result ≡ run_of machine schedule.now }
 {
-    let calculator = machine.calculator;
-    let mut counters = calculator.counters;
-    let mut table = calculator.snapshots;
+    let mut counters = machine.calculator.counters;
+    let mut table = machine.calculator.snapshots;
     let mut m = rest_of(machine);
-    let mut i = 0;
-    while i < schedule.len() {
-        let t = ThreadId(schedule[i]);
-        i += 1;
-        let step = one_more(m.clock);
-        m.clock = step;
-        let k = thread_at(t);
-        let l = m.locals[k];
-        if is_busy(t, l) {
-            let o = l.op;
-            let seen = l.seen;
-            let e = record_at(o);
-            let r = record_or_none(o, m.records[e]);
-            let a = r.asked;
-            let q = slot_at(a.key);
-            let held = content_or_empty(a.key, m.slots[q]);
-            let current = m.current;
-            let x = asks(t, l, a, current);
-            let d = counter_in(x);
-            let y = record_in(x);
-            let heard = hears(x, counters[d], table[y]);
-            let v = turn_of(t, step, m.threads, l, r, held, current, heard);
-            m.records[e] = own_or_same(v, o, m.records[e]);
-            let stood = v.local;
-            m.locals[k] = stood;
-            // most accesses only read, and are done
-            if !v.quiet {
-                let g = snapshot_at(current);
-                let w = window_in(current, m.traces[g]);
-                let f = record_at(v.raised);
-                m.records[f] = raised_or_same(v, step, w, t, m.records[f]);
-                m.slots[q] = slot_or_same(v, a.key, m.slots[q]);
-                m.traces[y] = trace_after(x, heard, step, seen, m.traces[y]);
-                m.current = current_by(x, current);
-                counters[d] = pair_after(x, counters[d]);
-                table[y] = record_after(x, table[y]);
-            }
-        } else {
-            m.idle = one_more(m.idle);
-        }
-    }
+    play_lent(&mut table, &mut counters, &mut m, schedule);
     whole_of(m, counters, table)
 }
 
 // One step: the schedule of that thread alone.
+#[tactic(auto, unfolding(figures::specs::Step::run_of))]
 pub fn step(m: Machine, t: ThreadId) -> Machine
     ensures { result ≡ step_of m t }
 {
-    let one = [t.0];
-    play(m, &one)
+    play(m, &[t.0])
 }

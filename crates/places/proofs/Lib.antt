@@ -1,4 +1,3 @@
-pub mod Filled
 pub mod Held
 pub mod History
 pub mod Placed

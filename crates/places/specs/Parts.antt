@@ -19,9 +19,6 @@ use Rattle.places.specs.declared.rules.Window.{Window}
 abbrev pub window_by : Trace → Cell → Window
 window_by t j = record { closed = t.closed; fixed = t.fixed; seen = count_at t.seen j }
 
-abbrev pub no_window : Window
-no_window = record { closed = 0; fixed = 0; seen = 0 }
-
 -- the operation whose update decides: its own if that was raised, else the one that was found (where none was found, any will do)
 abbrev pub found_or : OpId → Content → OpId
 found_or o Empty = o

@@ -1,8 +1,7 @@
 -- What a lent log buffer takes.
-use Rattle.std.specs.Prelude.{ℕ, ◌*◌, Bool, cond, not, List, [], ◌∷◌, length, ltb}
+use Rattle.std.specs.Prelude.{ℕ, ◌*◌, Bool, cond, List, [], ◌∷◌, Option, None, Some, length, ltb}
 use Rattle.history.specs.Order.{Entry}
 use Rattle.figures.specs.Limits.{most_operations}
-use Rattle.places.specs.declared.writing.Logged.{Logged}
 
 -- numbers per entry: operation, step
 abbrev pub per_entry : ℕ
@@ -24,5 +23,6 @@ log_lacks n room = ltb room (per_entry * n)
 abbrev pub written_of : Bool → List Entry → List Entry
 written_of lacks log = cond lacks [] log
 
-abbrev pub logged_of : Bool → List Entry → Logged
-logged_of lacks log = record { fits = not lacks; entries = length (written_of lacks log) }
+-- and told: how many entries, or none of that where there is no room
+abbrev pub logged_of : Bool → List Entry → Option ℕ
+logged_of lacks log = cond lacks None (Some (length log))

@@ -1,5 +1,5 @@
 -- A file that reading accepts asks for a run within the limits.
-use Prim.Native.Nat.{ℕ, zero, suc, ◌+◌, ◌-◌, ◌<◌}
+use Prim.Native.Nat.{ℕ, zero, suc, ◌+◌, ◌-◌, ◌≤◌, ◌<◌}
 use mathlib.Core.Path.{◌≡◌, refl, sym, ap, ◌∙◌, subst}
 use mathlib.Core.List.{List, [], ◌∷◌}
 use native.Mathlib.Omega.{arith}
@@ -12,7 +12,11 @@ use Rattle.figures.specs.Counts.{Within, Counted, SizeSteps, ops_before}
 use Rattle.figures.proofs.Codec.{allowed_key}
 use Rattle.runfile.specs.Rows.{sum_to}
 use Rattle.runfile.specs.Layout.{count_of}
+use Rattle.std.specs.Prelude.{Ok}
+use Rattle.runfile.specs.declared.Layout.{Layout}
 use Rattle.runfile.specs.declared.Reading.{Reading}
+use Rattle.runfile.specs.Answers.{reading_of}
+use Rattle.runfile.proofs.Answers.{layout_accepts}
 use Rattle.runfile.specs.Read.{read_of}
 use Rattle.runfile.specs.Accepts.{Accepts}
 use Rattle.runfile.proofs.Accepts.{accepts}
@@ -78,6 +82,10 @@ module _ (f : List ℕ) (ok : (read_of f).number ≡ 0) where
         steps = λ s h. let l : s < (read_of f).steps = omega (arith, schedule_length) in
             rw (step_at s l) (a.steps_named ((read_of f).schedule_at + s) (omega arith) (omega (arith, a.file_ends)));
       }
+
+-- the parts that reading tells lie in the file
+pub laid_out : (f : List ℕ) (l : Layout) → reading_of (Ok l) ≡ read_of f → (l.operations_at ≤ l.schedule_at) × (l.schedule_at ≤ length f)
+laid_out f l e = let a = layout_accepts f l e in (omega (arith, a.schedule_next), omega (arith, a.file_ends))
 
 -- what is played: the parts of the file that reading tells
 pub played_is : (f : List ℕ) (r : Reading) → r ≡ read_of f → r.number ≡ 0

@@ -1,24 +1,24 @@
 -- What a run tells, by which test decided.
 use Prim.Native.Nat.{ℕ, ◌*◌, ◌≤◌}
-use mathlib.Core.Path.{◌≡◌, sym, ap, ◌∙◌}
+use mathlib.Core.Path.{◌≡◌, refl, sym, ap, ◌∙◌}
 use mathlib.Core.Logic.{◌≢◌}
-use mathlib.Core.Bool.{true, false, cond}
+use mathlib.Core.Bool.{Bool, true, false, cond}
 use mathlib.Core.List.{List, []}
 use native.Mathlib.Omega.{arith}
 use lib.ListN.{length, take}
 use lib.Seq.{sets}
 use lib.Dec.{ltb}
-use borrow.Author.Tests.{ltb-false, le-ltb, eq-eqb, ne_eqb}
+use borrow.Author.Tests.{le-ltb, eq-eqb, ne_eqb}
+use Rattle.std.specs.Prelude.{None, Some}
 use Rattle.history.specs.Order.{Entry}
-use Rattle.history.proofs.Split.{or_false}
+use Rattle.history.proofs.Split.{or_second}
 use Rattle.figures.specs.declared.Counts.{Counts}
 use Rattle.figures.specs.declared.Snapshot.{Snapshot}
 use Rattle.figures.specs.declared.Machine.{Machine}
 use Rattle.figures.specs.Places.{log_of}
 use Rattle.machine.specs.declared.Rest.{Rest}
 use Rattle.machine.specs.Parts.{whole_of}
-use Rattle.places.specs.Written.{per_entry, numbers_of, held_of, log_lacks, written_of}
-use Rattle.places.specs.History.{with_history}
+use Rattle.places.specs.Written.{numbers_of, held_of, log_lacks, logged_of}
 use Rattle.places.proofs.Held.{held_all}
 use Rattle.places.proofs.History.{log_told}
 use Rattle.runfile.specs.Read.{read_of}
@@ -27,12 +27,23 @@ use Rattle.play.specs.Run.{machine_of, count_of, per_operation, results_of, entr
 
 -- ---- Handing back.
 
+-- what is written and told of a log says whether there was room for it
+no_log : (b : Bool) (es : List Entry) → logged_of b es ≡ None → b ≡ true
+no_log true es e = refl
+no_log false es e = cc
+
+some_log : (b : Bool) (es : List Entry) (k : ℕ) → logged_of b es ≡ Some k → (b ≡ false) × (k ≡ length es)
+some_log true es k e = cc
+some_log false es k e = (refl, cc)
+
 module _ (n results log : ℕ) where
-  -- there is room for all of it
-  pub has_room : lacks n results log ≡ false → (per_operation * held_of n ≤ results) × (per_entry * held_of n ≤ log)
-  has_room e =
-      let a = or_false (ltb results (per_operation * held_of n)) _ e in
-      (ltb-false results (per_operation * held_of n) a.0, ltb-false log (per_entry * held_of n) a.1)
+  -- where there is no log room is lacking, and where there is one, and room for the results, it is not
+  pub lacks_log : (es : List Entry) → logged_of (log_lacks (held_of n) log) es ≡ None → (lacks n results log ≡ true) × (log_lacks (held_of n) log ≡ true)
+  lacks_log es e = let b = no_log _ es e in (or_second (ltb results (per_operation * held_of n)) b, b)
+
+  pub has_log : (es : List Entry) (k : ℕ) → logged_of (log_lacks (held_of n) log) es ≡ Some k → per_operation * held_of n ≤ results
+      → (lacks n results log ≡ false) × (k ≡ length es) × (log_lacks (held_of n) log ≡ false)
+  has_log es k e h = let s = some_log _ es k e in (rw (le-ltb results (per_operation * held_of n) h) s.0, s.1, s.0)
 
   -- where room is lacking the number is 11, and otherwise 0
   pub lacking : lacks n results log ≡ true → lack_number n results log ≢ 0
@@ -65,19 +76,9 @@ unwritten {n = n} l xs h = rw (ne_eqb n 0 h)
 pub is_written : {A : Type 0} {n : ℕ} (l xs : List A) → n ≡ 0 → sets l 0 xs ≡ sets l 0 (when n xs)
 is_written {n = n} l xs h = rw (eq-eqb n 0 h)
 
--- with room enough the whole log is written
-module _ (m : Rest) (n room : ℕ) (h : per_entry * held_of n ≤ room) where
-  pub log_written : written_of (log_lacks (held_of n) room) (log_of (with_history m.records m.traces) (held_of n))
-      ≡ log_of (whole_of m [] []) (held_of n)
-  log_written = rw (le-ltb room (per_entry * held_of n) h) (log_told (whole_of m [] []) (held_of n))
-
 -- ---- Of a file: by reading, and otherwise as its machine is handed back.
 
 module _ (f : List ℕ) (results log : ℕ) where
-  -- reading refused the file
-  pub told_refused : (read_of f).number ≢ 0 → (told_of f results log ≡ refused (read_of f).number (read_of f).place) × (number_of f results log ≡ (read_of f).number)
-  told_refused h = let e = ne_eqb (read_of f).number 0 h in (rw e, rw e)
-
   module _ (ok : (read_of f).number ≡ 0) where
     -- a machine holds all operations of an accepted file
     held_file : held_of (count_of f) ≡ count_of f

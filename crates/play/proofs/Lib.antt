@@ -1,7 +1,8 @@
 pub mod Worked
 pub mod Accepted
 pub mod Results
+pub mod Answers
 pub mod Decided
-pub mod Unique
 pub mod Instances
 pub mod Table
+pub mod Unique

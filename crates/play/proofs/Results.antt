@@ -1,34 +1,33 @@
 -- What a turn does to the results: five numbers more.
-use Prim.Native.Nat.{ℕ, suc, ◌+◌, ◌*◌, ◌≤◌, ◌<◌}
-use mathlib.Core.Path.{◌≡◌, ap, ◌∙◌}
-use mathlib.Core.List.{List, []}
-use native.Mathlib.Omega.{arith}
-use native.Mathlib.Numerals.{add-one, add-two, add-three}
-use lib.ListN.{length, get_or, set, take, drop, length-take}
-use lib.Seq.{sets, drop-cons, drop-length, get_or-take}
+use Rattle.std.proofs.Common.{◌≡◌, ℕ, ◌+◌, ◌-◌, ◌*◌, ◌≤◌, ◌<◌, suc, List, [], ◌∷◌, length, get_or, drop, sym, ap, ◌∙◌, arith, add-one, append_assoc, take}
+use Rattle.std.proofs.lemmas.List.{drop-drop}
+use Rattle.std.proofs.lemmas.List.Edits.{sets, sets-eq}
+use borrow.Rule.Slice.PartMut.{put_mid}
+use lib.Seq.{drop-cons, drop-length}
 use Rattle.figures.specs.declared.Outcome.{Outcome}
 use Rattle.figures.specs.declared.Record.{Record}
 use Rattle.figures.specs.Step.{no_record}
 use Rattle.play.specs.Run.{per_operation, fours_of}
 
-abbrev pub stored : List ℕ → ℕ → Outcome → List ℕ
-stored l at w = set (set (set (set (set l at w.answer) (at + 1) w.first) (at + 2) w.last) (at + 3) w.own) (at + 4) w.raiser
+abbrev pub five_of : Outcome → List ℕ
+five_of w = w.answer ∷ w.first ∷ w.last ∷ w.own ∷ w.raiser ∷ []
 
-add_four : (n : ℕ) → n + 4 ≡ suc (suc (suc (suc n)))
-add_four n = omega arith
+-- the part from `at` on is five numbers, and these are set there
+part_sets : (l : List ℕ) (at : ℕ) (w : Outcome) → at + 5 ≤ length l → put_mid at (at + 5 - at) l (five_of w) ≡ sets l at (five_of w)
+part_sets l at w h =
+    let five : at + 5 - at ≡ 5 = omega arith in
+    rw (five, drop-drop) (sym (sets-eq (five_of w) l at h ∙ append_assoc (take at l) (five_of w) _))
 
-pub fours_on : (rs : List Record) (l : List ℕ) {n i : ℕ} → i < n → n ≤ length rs
-    → sets l (per_operation * i) (fours_of (drop i (take n rs)))
-    ≡ sets (stored l (per_operation * i) (get_or rs i no_record).outcome) (per_operation * (i + 1)) (fours_of (drop (i + 1) (take n rs)))
+pub fours_on : (rs : List Record) (l : List ℕ) (i : ℕ) → i < length rs → per_operation * i + 5 ≤ length l
+    → sets (put_mid (per_operation * i) (per_operation * i + 5 - per_operation * i) l (five_of (get_or rs i no_record).outcome)) (per_operation * (i + 1)) (fours_of (drop (i + 1) rs))
+    ≡ sets l (per_operation * i) (fours_of (drop i rs))
 unfolding fours_of
-fours_on rs l {n} {i} h k =
-    let e : i < length (take n rs) = simp length-take (omega arith) in
-    let five : per_operation * (i + 1) ≡ suc (suc (suc (suc (suc (per_operation * i))))) = omega arith in
-    rw (five, add-one (per_operation * i), add-two (per_operation * i), add-three (per_operation * i), add_four (per_operation * i), add-one i, drop-cons (take n rs) i no_record e, get_or-take n rs i no_record h)
+fours_on rs l i h k =
+    let next : per_operation * (i + 1) ≡ suc (suc (suc (suc (suc (per_operation * i))))) = omega arith in
+    rw (part_sets l (per_operation * i) (get_or rs i no_record).outcome k, next, add-one i, drop-cons rs i no_record h)
 
-pub fours_end : (rs : List Record) (l : List ℕ) {n i : ℕ} → i ≡ n → n ≤ length rs → sets l (per_operation * i) (fours_of (drop i (take n rs))) ≡ l
+pub fours_end : (rs : List Record) (l : List ℕ) (i : ℕ) → i ≡ length rs → sets l (per_operation * i) (fours_of (drop i rs)) ≡ l
 unfolding fours_of
-fours_end rs l {n} {i} h k =
-    let e : i ≡ length (take n rs) = simp length-take (omega arith) in
-    let d : drop i (take n rs) ≡ [] = ap (λ (j : ℕ). drop j (take n rs)) e ∙ drop-length (take n rs) in
+fours_end rs l i e =
+    let d : drop i rs ≡ [] = ap (λ (j : ℕ). drop j rs) e ∙ drop-length rs in
     rw d

@@ -1,3 +1,4 @@
 pub mod Run
+pub mod Answers
 pub mod Meets
 pub mod Worked

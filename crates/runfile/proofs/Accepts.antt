@@ -13,10 +13,11 @@ use Rattle.runfile.specs.declared.Refusal.TheVariants.{Threads, Keys, Offset, To
 use Rattle.figures.specs.Codec.{fault_of}
 use Rattle.runfile.specs.Rows.{sum_to, Passes}
 use Rattle.runfile.specs.Layout.{body_at, offset_in, count_in, count_of, operation_right, step_right}
-use Rattle.runfile.specs.Read.{threads_in, keys_in, operations_in, steps_in, schedule_in, counts_in, offset_right, wrong_entry, wrong_operation, wrong_step, rows, refused, accepted, read_of}
+use Rattle.runfile.specs.Read.{threads_in, keys_in, operations_in, steps_in, schedule_in, counts_in, wrong_operation, wrong_step, rows, refused, accepted, read_of}
 use Rattle.runfile.specs.Accepts.{Accepts}
 use Rattle.runfile.specs.declared.Reading.{Reading}
 use Rattle.runfile.proofs.Laws.{inside, first_before, sum_same, sum_zeros, list_at, length_list, zeros_at}
+use Rattle.runfile.proofs.Entries.{offsets_follow}
 use Rattle.runfile.proofs.Rows.{passed, past, row_named}
 use Rattle.runfile.proofs.Operations.{byte_none}
 use Rattle.runfile.proofs.Table.{read_passes}
@@ -39,9 +40,7 @@ module _ (f : List ℕ) (zero-told : (read_of f).number ≡ 0) where
 
   -- every entry's offset is the sum required
   pub offsets_right : (i : ℕ) → i ≤ threads_in f → offset_in f i ≡ body_at (threads_in f) + sum_to (count_in f) i
-  offsets_right i h =
-      let past = ltb-false (wrong_entry f) (threads_in f + 1) (by Offset) in
-      eqb-true _ _ (first_before (offset_right f) (threads_in f + 1 - 0) 0 i (omega arith) (omega arith))
+  offsets_right = offsets_follow f (by Offset)
 
   ends : length f ≡ schedule_in f + steps_in f
   ends = eqb-true (length f) (schedule_in f + steps_in f) (not-false _ (by Length))

@@ -9,7 +9,7 @@ use native.Mathlib.Decide.{dec_lt}
 use lib.ListN.{length, get_or, take, drop}
 use lib.Seq.{get_or-take, length-take-le, take-take, take_all}
 use lib.Dec.{ltb, eqb}
-use borrow.Author.Tests.{le-ltb, ltb-false, ne_eqb, eqb-true}
+use borrow.Author.Tests.{le-ltb, ltb-false, ne_eqb}
 use Rattle.figures.specs.Limits.{most_threads, most_keys, most_operations, most_steps}
 use Rattle.runfile.specs.declared.Refusal.{Refusal}
 use Rattle.runfile.specs.declared.Refusal.TheVariants.{NoHead, Threads, Keys, TableCutShort, Offset, TooManyOperations, TooManySteps, Length}
@@ -18,7 +18,8 @@ use Rattle.runfile.specs.Rows.{Row, row, decide, outside, first_bad, sum_to}
 use Rattle.runfile.specs.Layout.{word_at, entry_at, body_at, count_in}
 use Rattle.runfile.specs.Read.{threads_in, keys_in, operations_in, steps_in, schedule_in, offset_right, wrong_entry, rows, table_rows, body_rows, refused, accepted, read_of}
 use Rattle.runfile.specs.Contents.{longest}
-use Rattle.runfile.proofs.Laws.{true_false, inside, first_same, first_before, sum_same}
+use Rattle.runfile.proofs.Laws.{true_false, inside, first_same, sum_same}
+use Rattle.runfile.proofs.Entries.{offsets_follow}
 use Rattle.runfile.proofs.Accepts.{accepts}
 
 pub accepted_short : (f : List ℕ) → (read_of f).number ≡ 0 → length f ≤ longest
@@ -49,11 +50,9 @@ ends_wrong : (f : List ℕ) → longest < length f → threads_in f ≤ most_thr
     → ltb most_steps (steps_in f) ≡ false
     → not (eqb (length f) (schedule_in f + steps_in f)) ≡ true
 ends_wrong f long few past5 past6 past7 =
-    let entries-pass = ltb-false (wrong_entry f) (threads_in f + 1) past5 in
     let operations-pass = ltb-false most_operations (operations_in f) past6 in
     let steps-pass = ltb-false most_steps (steps_in f) past7 in
-    let schedule : schedule_in f ≡ body_at (threads_in f) + operations_in f =
-    eqb-true _ _ (first_before (offset_right f) (threads_in f + 1 - 0) 0 (threads_in f) (omega arith) (omega arith)) in
+    let schedule = offsets_follow f past5 (threads_in f) (omega arith) in
     ap not (ne_eqb (length f) (schedule_in f + steps_in f) (λ e. omega arith))
 
 module _ (f g : List ℕ) (long-f : longest < length f) (long-g : longest < length g) (same : take (longest + 1) f ≡ take (longest + 1) g) where

@@ -11,6 +11,8 @@ use lib.Dec.{T, ltb, eqb}
 use borrow.Author.Tests.{ltb-false, eqb-true, not-false}
 use lib.ListN.{length, get_or, set, drop, replicate, length-replicate}
 use lib.Seq.{sets, sets-eq}
+use Rattle.std.specs.List.{sum}
+use Rattle.std.proofs.lemmas.List.Sums.{sum_by-cons}
 use Rattle.runfile.specs.Layout.{count_of}
 use Rattle.runfile.specs.Write.{disagree}
 use Rattle.runfile.specs.Rows.{outside, first_bad, first_bad_in, sum_to, list_from}
@@ -24,19 +26,6 @@ down h = omega arith
 pub done : {n i : ℕ} → n ≤ i → n - i ≡ 0
 done h = omega arith
 
-module _ (ok : ℕ → Bool) {n p : ℕ} where
-  pub bad_on : p < n → ok p ≡ true → first_bad_in ok p n ≡ first_bad_in ok (p + 1) n
-  unfolding first_bad
-  bad_on h e = simp (down h, e)
-
-  pub bad_off : p < n → ok p ≡ false → first_bad_in ok p n ≡ p
-  unfolding first_bad
-  bad_off h e = simp (down h, e)
-
-  pub bad_end : n ≤ p → first_bad_in ok p n ≡ p
-  unfolding first_bad
-  bad_end h = simp (done h)
-
 pub sum_on : (f : ℕ → ℕ) (i : ℕ) → sum_to f (i + 1) ≡ sum_to f i + f i
 unfolding sum_to
 sum_on f i = rw add-one
@@ -45,6 +34,12 @@ pub sum_head : (f : ℕ → ℕ) (n : ℕ) → sum_to f (suc n) ≡ f 0 + sum_to
 unfolding sum_to
 sum_head f zero = omega arith
 sum_head f (suc n) = omega (arith, sum_head f n)
+
+-- the sum of a list, by its entries
+pub sum_all : (l : List ℕ) → sum l ≡ sum_to (count_of l) (length l)
+unfolding sum_to
+sum_all [] = refl
+sum_all (x ∷ l) = sum_by-cons (λ (y : ℕ). y) x l ∙ ap (λ (n : ℕ). x + n) (sum_all l) ∙ sym (sum_head (count_of (x ∷ l)) (length l))
 
 pub sum_grows : (f : ℕ → ℕ) (i n : ℕ) → i ≤ n → sum_to f i ≤ sum_to f n
 unfolding sum_to

@@ -3,7 +3,7 @@
 use Prim.Native.Nat.{ℕ, ◌<◌, ◌≤◌}
 use mathlib.Core.Path.{◌≡◌, refl, sym, ap, ◌∙◌}
 use mathlib.Core.Bool.{Bool, true, false, cond}
-use mathlib.Core.List.{List, ◌++◌}
+use mathlib.Core.List.{List, [], ◌∷◌}
 use mathlib.Core.Logic.{◌⊎◌, inl, inr, ◌↔◌}
 use native.Mathlib.Omega.{arith}
 use lib.ListN.{get_or}
@@ -15,10 +15,10 @@ use Rattle.figures.specs.Codec.{call_of, key_of, is_size, allowed, Fault, key_to
 use Rattle.figures.specs.Limits.{most_keys}
 use Rattle.figures.proofs.Codec.{size_not}
 use Rattle.runfile.specs.declared.Refusal.{Refusal}
-use Rattle.runfile.specs.declared.Refusal.TheVariants.{KeyTooLarge, KeyNotBelowK, SizeWithKey}
+use Rattle.runfile.specs.declared.Refusal.TheVariants.{KeyTooLarge, KeyNotBelowK, SizeWithKey, Step}
 use Rattle.runfile.specs.Refusals.{number_of, fault_row}
-use Rattle.runfile.specs.Rows.{Row, decide}
-use Rattle.runfile.specs.Shared.{wrong_operation_in, fault_in, byte_row, byte_rows, operation_rows}
+use Rattle.runfile.specs.Rows.{Passes, Stops, here, later}
+use Rattle.runfile.specs.Shared.{wrong_operation_in, wrong_step_in, byte_row, byte_rows, operation_rows, step_row}
 use Rattle.runfile.specs.Table.{Allowed, Wrong, key_large, key_over, size_keyed, OneOfFour}
 use Rattle.runfile.proofs.Laws.{true_false}
 use Rattle.runfile.proofs.Rows.{one_row}
@@ -81,22 +81,26 @@ one_of_four keys byte few =
 
 -- ---- the three rows
 
--- they refuse by the byte's own row where there is such a byte, and else leave it to the rows after them
-pub byte_decides : {A : Type 0} (refuse : ℕ → ℕ → A) (accept : A) (bad : Bool) (x : Fault) (p : ℕ) (rs : List Row)
-    → decide refuse accept (byte_rows bad (fault_row x) p ++ rs) ≡ cond bad (refuse (number_of (fault_row x)) p) (decide refuse accept rs)
-byte_decides refuse accept false x p rs = refl
-byte_decides refuse accept true key_too_large p rs = refl
-byte_decides refuse accept true key_not_below p rs = refl
-byte_decides refuse accept true size_with_key p rs = refl
+-- where there is such a byte its own row stops, and where there is none all three let pass
+byte_stops : (x : Fault) (p : ℕ) → Stops (byte_rows true (fault_row x) p) (fault_row x) p
+byte_stops key_too_large p = here refl
+byte_stops key_not_below p = later refl (here refl)
+byte_stops size_with_key p = later refl (later refl (here refl))
 
-pub bad_stops : {A : Type 0} (refuse : ℕ → ℕ → A) (accept : A) (keys : ℕ) (bytes : List ℕ) (from to : ℕ) (rs : List Row)
-    → wrong_operation_in keys bytes from to < to
-    → decide refuse accept (operation_rows keys bytes from to ++ rs)
-    ≡ refuse (number_of (fault_in keys bytes from to)) (wrong_operation_in keys bytes from to)
-bad_stops refuse accept keys bytes from to rs h =
-    let p = wrong_operation_in keys bytes from to in
-    byte_decides refuse accept (ltb p to) (fault_of (get_or bytes p 0)) p rs
-    ∙ ap (λ (b : Bool). cond b (refuse (number_of (fault_in keys bytes from to)) p) (decide refuse accept rs)) (lt-ltb p to h)
+module _ (keys : ℕ) (bytes : List ℕ) (from to : ℕ) {p : ℕ} (first : wrong_operation_in keys bytes from to ≡ p) where
+  pub operation_stops : p < to → Stops (operation_rows keys bytes from to) (fault_row (fault_of (get_or bytes p 0))) p
+  operation_stops h = rw (first, lt-ltb p to h) (byte_stops (fault_of (get_or bytes p 0)) p)
+
+  pub operation_passes : to ≤ p → Passes (operation_rows keys bytes from to)
+  operation_passes h = rw (first, le-ltb p to h) (refl, (refl, (refl, tt)))
+
+-- the row of a schedule byte
+module _ (threads : ℕ) (bytes : List ℕ) (from to : ℕ) {p : ℕ} (first : wrong_step_in threads bytes from to ≡ p) where
+  pub step_stops : p < to → Stops (step_row threads bytes from to ∷ []) Step p
+  step_stops h = rw first (here (lt-ltb p to h))
+
+  pub step_passes : to ≤ p → Passes (step_row threads bytes from to ∷ [])
+  step_passes h = rw first (le-ltb p to h, tt)
 
 -- row r applies exactly where there is such a byte and its own row is r
 module _ (bad : Bool) (own : Refusal) (p : ℕ) (r : Refusal) where

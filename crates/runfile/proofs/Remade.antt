@@ -26,7 +26,7 @@ use Rattle.runfile.proofs.Accepts.{by, reads_accepted, offsets_right, facts}
 use Rattle.runfile.specs.Table.{Unwritable, writing_order, threads_bad, keys_bad, lists_disagree, operations_over, steps_over, operation_bad, step_bad, room_small}
 use Rattle.runfile.specs.declared.Refusal.{Refusal}
 use Rattle.runfile.specs.declared.Refusal.TheVariants.{Threads, Keys}
-use Rattle.runfile.proofs.Writer.{writes_told, writes_file}
+use Rattle.runfile.proofs.Writer.{writer_passes, write_passes, file_passes}
 
 -- four bytes are the two numbers that they are read as
 entry_bytes : (l : List ℕ) (p : ℕ) → Bytes l → p + 4 ≤ length l
@@ -145,10 +145,10 @@ module _ (f : List ℕ) (bytes : Bytes f) (zero-told : (read_of f).number ≡ 0)
   accepted_remade : (room : ℕ) → length f ≤ room → Remade f (accepted f) room
   unfolding operations_of_lem schedule_of_lem
   accepted_remade room h =
-      let zero = writer_takes room h in
+      let passes = writer_passes (threads_in f) (keys_in f) (counts_in f) operations_of_lem schedule_of_lem room (writer_takes room h) in
       record {
-        answer = rw counts_taken (writes_told (threads_in f) (keys_in f) (counts_in f) operations_of_lem schedule_of_lem room zero ∙ rw file_made);
-        file = rw counts_taken (writes_file (threads_in f) (keys_in f) (counts_in f) operations_of_lem schedule_of_lem room zero ∙ file_made);
+        answer = rw counts_taken (write_passes (threads_in f) (keys_in f) (counts_in f) operations_of_lem schedule_of_lem room passes ∙ rw file_made);
+        file = rw counts_taken (file_passes (threads_in f) (keys_in f) (counts_in f) operations_of_lem schedule_of_lem room passes ∙ file_made);
       }
 
   -- an accepted file, taken apart by reading, is made again by writing

@@ -20,7 +20,7 @@ use Rattle.runfile.specs.Table.{Allowed, Refuses, reading_order, short, threads_
 use Rattle.runfile.specs.Contents.{contents, ReadsAs}
 use Rattle.runfile.proofs.Laws.{true_false, first_before, sum_same, list_is}
 use Rattle.runfile.proofs.File.{all_counts, file_drop, file_entry, length_file}
-use Rattle.runfile.proofs.Writer.{writer_passes, ready, writes_told, writes_file}
+use Rattle.runfile.proofs.Writer.{writer_passes, ready, write_passes, file_passes}
 use Rattle.runfile.proofs.Rows.{past, row_named, none_of}
 use Rattle.runfile.proofs.Operations.{allowed_is, byte_none}
 use Rattle.runfile.proofs.Table.{outside_is, read_decides}
@@ -31,8 +31,11 @@ module _ (threads keys : ℕ) (counts operations schedule : List ℕ) (room : �
   file : List ℕ
   file = file_of threads keys counts operations schedule
 
+  passes : Passes (writer_rows threads keys counts operations schedule room)
+  passes = writer_passes threads keys counts operations schedule room zero-told
+
   enough : length counts ≡ threads
-  enough = (ready threads keys counts operations schedule room zero-told).0
+  enough = (ready threads keys counts operations schedule room passes).0
 
   all_length : length (all_counts threads keys counts operations schedule) ≡ threads + 1
   all_length = length-append counts (length schedule ∷ []) ∙ omega (arith, enough)
@@ -57,7 +60,7 @@ module _ (threads keys : ℕ) (counts operations schedule : List ℕ) (room : �
   operations_is : sum_to (count_in file) threads ≡ length operations
   operations_is =
       sum_same (count_in file) (count_of counts) threads count_is
-      ∙ rw enough at (ready threads keys counts operations schedule room zero-told).4
+      ∙ rw enough at (ready threads keys counts operations schedule room passes).4
 
   steps_is : count_in file threads ≡ length schedule
   steps_is = (entry_is threads (omega arith)).1 ∙ get_or_at counts (length schedule) [] 0 threads enough
@@ -82,9 +85,6 @@ module _ (threads keys : ℕ) (counts operations schedule : List ℕ) (room : �
   byte_is j = sym (get_or-drop (body_at threads) file j 0) ∙ ap (λ (l : List ℕ). get_or l j 0) bodies_are
 
   -- ---- no row of the table holds of it
-
-  passes : Passes (writer_rows threads keys counts operations schedule room)
-  passes = writer_passes threads keys counts operations schedule room zero-told
 
   by : (r : Refusal) → (row_named (writer_rows threads keys counts operations schedule room) r).applies ≡ false
   by = past (writer_rows threads keys counts operations schedule room) passes
@@ -175,11 +175,11 @@ module _ (threads keys : ℕ) (counts operations schedule : List ℕ) (room : �
       (take (write_of threads keys counts operations schedule room).length
       (sets out 0 (written_of threads keys counts operations schedule room)))
   written_reads_as out h =
-      let fits = (ready threads keys counts operations schedule room zero-told).5 in
+      let fits = (ready threads keys counts operations schedule room passes).5 in
       let e : take (write_of threads keys counts operations schedule room).length
       (sets out 0 (written_of threads keys counts operations schedule room))
       ≡ file_of threads keys counts operations schedule =
-      rw (writes_told threads keys counts operations schedule room zero-told, writes_file threads keys counts operations schedule room zero-told)
+      rw (write_passes threads keys counts operations schedule room passes, file_passes threads keys counts operations schedule room passes)
       (ap (take (length (file_of threads keys counts operations schedule))) (sets-eq (file_of threads keys counts operations schedule) out 0 (omega arith))
       ∙ take_at (file_of threads keys counts operations schedule) _ (length (file_of threads keys counts operations schedule)) refl) in
       rw e file_reads_as

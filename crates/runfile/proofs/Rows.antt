@@ -78,6 +78,20 @@ module _ {A : Type 0} (refuse : ℕ → ℕ → A) (accept : A) where
   stopped (here e) = simp e
   stopped (later e s) = simp e (stopped s)
 
+-- rows and then others: all let pass, or the first that applies is among the former, or among the others
+pub passes_append : (rs ts : List Row) → Passes rs → Passes ts → Passes (rs ++ ts)
+passes_append [] ts ps qs = qs
+passes_append (x ∷ rs) ts ps qs = (ps.0, passes_append rs ts ps.1 qs)
+
+pub stops_append : (rs ts : List Row) {r : Refusal} {p : ℕ} → Stops rs r p → Stops (rs ++ ts) r p
+stops_append [] ts s = elim s [ ]
+stops_append (x ∷ rs) ts (here e) = here e
+stops_append (x ∷ rs) ts (later e s) = later e (stops_append rs ts s)
+
+pub stops_after : (rs : List Row) {ts : List Row} {r : Refusal} {p : ℕ} → Passes rs → Stops ts r p → Stops (rs ++ ts) r p
+stops_after [] ps s = s
+stops_after (x ∷ rs) ps s = later ps.0 (stops_after rs ps.1 s)
+
 -- whether a row is in an order
 abbrev pub listed : List Refusal → Refusal → Bool
 listed [] r = false
@@ -103,8 +117,7 @@ past (x ∷ rs) ps r = go (eqb (number_of x.name) (number_of r)) (past rs ps.1 r
     go true h = ps.0
     go false h = h
 
--- An answer that has the refusal's number, and 0 where the input is accepted: 0 says that every row let it pass, and any
--- other number that one stopped it.
+-- An answer that has the refusal's number: 0 says that every row let the input pass.
 module _ {A : Type 0} (refuse : ℕ → ℕ → A) (accept : A) (number : A → ℕ) (told : (n p : ℕ) → number (refuse n p) ≡ n)
     (rs : List Row) where
   pub number_passes : number (decide refuse accept rs) ≡ 0 → Passes rs
@@ -114,13 +127,6 @@ module _ {A : Type 0} (refuse : ℕ → ℕ → A) (accept : A) (number : A → 
       go (inl ps) = ps
       go (inr s) =
           absurd (omega (arith, numbered s.0, sym (told (number_of s.0) s.1) ∙ sym (ap number (stopped refuse accept s.2)) ∙ e))
-
-  pub number_stops : number accept ≡ 0 → (number (decide refuse accept rs) ≡ 0 → ⊥) → (r : Refusal) × (p : ℕ) × Stops rs r p
-  number_stops z e = go (outcome rs)
-    where
-      go : Passes rs ⊎ ((r : Refusal) × (p : ℕ) × Stops rs r p) → (r : Refusal) × (p : ℕ) × Stops rs r p
-      go (inl ps) = absurd (e (ap number (passed refuse accept rs ps) ∙ z))
-      go (inr s) = s
 
 -- ---- rows that tell what they mean: the first that applies is the first that holds
 

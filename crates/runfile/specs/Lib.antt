@@ -7,3 +7,4 @@ pub mod Write
 pub mod Table
 pub mod Accepts
 pub mod Contents
+pub mod Answers

@@ -1,35 +1,43 @@
 // The run file (document 01): reading it and writing it, by one layout.
 #![tactic(auto)]
 
-ghost use Rattle.std.specs.Prelude.{◌≡◌, [], ◌∷◌, ◌++◌, ◌+◌, ◌-◌, ◌*◌, ◌/◌, ◌%◌, ◌≤◌, ◌<◌, length, replicate};
+ghost use Rattle.std.specs.Prelude.{◌≡◌, [], ◌∷◌, ◌++◌, ◌+◌, ◌-◌, ◌*◌, ◌/◌, ◌%◌, ◌^◌, ◌≤◌, ◌<◌, length, replicate, drop, Some, IfOk, codes};
+ghost use Rattle.runfile.specs.declared.TheConstants.{HEADER, ENTRY};
+ghost use Rattle.std.specs.Fmt.{decimal};
+ghost use Rattle.std.specs.Simd.{first_chunks};
 ghost use Rattle.std.proofs.lemmas.List.Edits.{sets};
 ghost use Rattle.figures.specs.Limits.{most_threads, most_operations, most_steps};
 ghost use Rattle.figures.specs.Codec.{allowed, fault_of};
 ghost use Rattle.runfile.specs.Refusals.{number_of, fault_row};
-ghost use Rattle.runfile.specs.Rows.{outside, first_bad_in, sum_to, list_from, decide};
-ghost use Rattle.runfile.specs.Layout.{word_at, entry_at, body_at, count_in, operation_right, step_right, count_of, entries, file_of};
-ghost use Rattle.runfile.specs.Read.{threads_in, operations_in, steps_in, schedule_in, wrong_entry, refused, accepted, body_rows, table_rows, read_of};
-ghost use Rattle.runfile.specs.Write.{disagree, unwritten, written, writer_body_rows, write_of, written_of};
+ghost use Rattle.runfile.specs.Rows.{outside, Passes, sum_to};
+ghost use Rattle.runfile.specs.Layout.{word_at, entry_at, body_at, count_of, entries, file_of};
+ghost use Rattle.runfile.specs.Shared.{threads_row, keys_row, operations_row, steps_row, operation_rows, step_row};
+ghost use Rattle.runfile.specs.Read.{threads_in, counts_in, head_rows, table_rows, read_of};
+ghost use Rattle.runfile.specs.Write.{disagree, write_of, written_of};
+ghost use Rattle.runfile.specs.Answers.{Tested, offset_row, layout_in, file_made, rows_against, reading_of, writing_of};
 
-use figures::Machine;
+use figures::{Call, Machine, THREADS};
+use std::error::Error;
+use std::fmt;
+use std::ops::Range;
 
 // The rows of the table of refusals, by name. What each asks and in which order they are tried, specs/Read.antt and specs/Write.antt say.
-#[derive(Clone, Copy)]
+#[derive(Clone, Copy, PartialEq, Eq, Debug)]
 pub enum Refusal {
-    NoHead,
-    Threads,
-    Keys,
-    TableCutShort,
-    Offset,
-    TooManyOperations,
-    TooManySteps,
-    Length,
-    KeyTooLarge,
-    Step,
-    TooSmall,
-    Lists,
-    KeyNotBelowK,
-    SizeWithKey,
+    NoHead = 1,
+    Threads = 2,
+    Keys = 3,
+    TableCutShort = 4,
+    Offset = 5,
+    TooManyOperations = 6,
+    TooManySteps = 7,
+    Length = 8,
+    KeyTooLarge = 9,
+    Step = 10,
+    TooSmall = 11,
+    Lists = 12,
+    KeyNotBelowK = 13,
+    SizeWithKey = 14,
 }
 
 impl Refusal {
@@ -37,24 +45,35 @@ impl Refusal {
     pub fn number(self) -> u32
         ensures { result ≡ number_of self }
     {
-        match self {
-            Refusal::NoHead => 1,
-            Refusal::Threads => 2,
-            Refusal::Keys => 3,
-            Refusal::TableCutShort => 4,
-            Refusal::Offset => 5,
-            Refusal::TooManyOperations => 6,
-            Refusal::TooManySteps => 7,
-            Refusal::Length => 8,
-            Refusal::KeyTooLarge => 9,
-            Refusal::Step => 10,
-            Refusal::TooSmall => 11,
-            Refusal::Lists => 12,
-            Refusal::KeyNotBelowK => 13,
-            Refusal::SizeWithKey => 14,
-        }
+        self as u32
+    }
+
+    // This refusal, told at a place.
+    pub fn at(self, place: usize) -> Refused
+        ensures { result ≡ record { why = self; place = place } }
+    {
+        Refused { why: self, place }
     }
 }
+
+// Why a file is refused, or what the writer is given, and at which place.
+#[derive(Clone, Copy, PartialEq, Eq, Debug)]
+pub struct Refused {
+    pub why: Refusal,
+    pub place: usize,
+}
+
+impl fmt::Display for Refused {
+    ghost output = { λ refused. Some (codes "refused " ++ decimal (number_of refused.why) ++ codes " at " ++ decimal refused.place) };
+
+    fn fmt<W: fmt::Write>(&self, f: &mut fmt::Formatter<W>) -> fmt::Result {
+        let number = self.why.number();
+        let place = self.place;
+        write!(f, "refused {number} at {place}")
+    }
+}
+
+impl Error for Refused {}
 
 // T and K, and then contents entries of four bytes.
 const HEADER: usize = 2;
@@ -62,460 +81,405 @@ const HEADER: usize = 2;
 const ENTRY: usize = 4;
 
 // One byte more than any accepted file has: a longer input is told from that many of its bytes (`kept_same` of proofs/Bounded.antt).
-pub const KEPT: usize = HEADER
-    + ENTRY * (Machine::THREADS as usize + 1)
-    + Machine::OPERATIONS
-    + Machine::STEPS
-    + 1;
+pub const KEPT: usize = HEADER + ENTRY * (THREADS + 1) + Machine::OPERATIONS + Machine::STEPS + 1;
 
-// What reading answers: number 0 where the file is accepted, else the refusal's number and place, and every other number 0.
-#[derive(Clone, Copy)]
-pub struct Reading {
-    pub number: u32,
-    pub place: usize,
+// What an accepted file holds, and where it lies: the counts of absent threads are 0.
+#[derive(Clone, Copy, PartialEq, Eq, Debug)]
+pub struct Layout {
     pub threads: u8,
     pub keys: u8,
-    pub counts: [u16; Machine::THREADS as usize],
+    pub counts: [u16; THREADS],
     pub operations_at: usize,
     pub operations: usize,
     pub schedule_at: usize,
     pub steps: usize,
 }
 
-// What writing answers: number 0 and the file's length, or the refusal's number and place, and length 0.
-#[derive(Clone, Copy)]
+// The form in which C is handed what reading answers: number 0 where the file is accepted, else the refusal's number and place, and
+// every other number 0.
+// stays: the C interface needs the number and the values in one struct.
+#[repr(C)]
+#[derive(Clone, Copy, Default)]
+pub struct Reading {
+    pub number: u32,
+    pub place: usize,
+    pub threads: u8,
+    pub keys: u8,
+    pub counts: [u16; THREADS],
+    pub operations_at: usize,
+    pub operations: usize,
+    pub schedule_at: usize,
+    pub steps: usize,
+}
+
+impl From<Result<Layout, Refused>> for Reading {
+    ghost from_gives = { λ r reading. reading ≡ reading_of r };
+
+    fn from(answer: Result<Layout, Refused>) -> Reading {
+        match answer {
+            Ok(layout) => {
+                let counts = layout.counts;
+                Reading {
+                    number: 0,
+                    place: 0,
+                    threads: layout.threads,
+                    keys: layout.keys,
+                    counts,
+                    operations_at: layout.operations_at,
+                    operations: layout.operations,
+                    schedule_at: layout.schedule_at,
+                    steps: layout.steps,
+                }
+            }
+            Err(refused) => Reading {
+                number: refused.why.number(),
+                place: refused.place,
+                ..Reading::default()
+            },
+        }
+    }
+}
+
+// The form in which C is handed what writing answers: number 0 and the file's length, or the refusal's number and place, and length 0.
+// stays: the C interface needs the number and the length in one struct.
+#[repr(C)]
+#[derive(Clone, Copy, Default)]
 pub struct Writing {
     pub number: u32,
     pub place: usize,
     pub length: usize,
 }
 
-fn wide(x: u8) -> usize
-    ensures value { result ≡ x }
-    ensures upper_bound { result < 256 }
-{
-    x as usize
-}
+impl From<Result<usize, Refused>> for Writing {
+    ghost from_gives = { λ r writing. writing ≡ writing_of r };
 
-// The two-byte number at p.
-fn word(f: &[u8], p: usize) -> usize
-    requires { p + 1 < length f.now }
-    ensures value { result ≡ word_at f.now p }
-    ensures upper_bound { result < 65536 }
-{
-    wide(f[p]) + 256 * wide(f[p + 1])
-}
-
-fn narrow(x: usize) -> u16
-    requires { x < 65536 }
-    ensures { result ≡ x }
-{
-    x as u16
-}
-
-// Whether a number of threads or keys is 0 or above its limit.
-fn is_outside(x: u8, most: u8) -> bool
-    ensures { result ≡ outside x most }
-{
-    if x < 1 {
-        return true;
+    fn from(answer: Result<usize, Refused>) -> Writing {
+        match answer {
+            Ok(length) => Writing {
+                length,
+                ..Writing::default()
+            },
+            Err(refused) => Writing {
+                number: refused.why.number(),
+                place: refused.place,
+                length: 0,
+            },
+        }
     }
-    most < x
+}
+
+// What a run file is made of.
+#[derive(Clone, Copy)]
+pub struct Contents<'a> {
+    pub threads: u8,
+    pub keys: u8,
+    pub counts: &'a [u16],
+    pub operations: &'a [u8],
+    pub schedule: &'a [u8],
+}
+
+// One contents entry: where a body begins, and how long it is.
+#[derive(Clone, Copy)]
+struct Entry {
+    offset: u16,
+    count: u16,
+}
+
+impl From<[u8; ENTRY]> for Entry {
+    ghost from_gives = { λ bytes entry. (entry.offset ≡ word_at bytes 0) × (entry.count ≡ word_at bytes 2) };
+
+    fn from(bytes: [u8; ENTRY]) -> Entry {
+        let [a, b, c, d] = bytes;
+        Entry {
+            offset: u16::from_le_bytes([a, b]),
+            count: u16::from_le_bytes([c, d]),
+        }
+    }
+}
+
+impl Entry {
+    fn to_bytes(self) -> [u8; ENTRY]
+        ensures { result ≡ entries self.offset (self.count ∷ []) }
+    {
+        let [a, b] = self.offset.to_le_bytes();
+        let [c, d] = self.count.to_le_bytes();
+        [a, b, c, d]
+    }
 }
 
 // Whether an operation byte is allowed where there are so many keys.
 fn is_allowed(keys: u8, byte: u8) -> bool
     ensures { result ≡ allowed keys byte }
 {
-    if figures::is_size(figures::call_of(byte)) {
-        return byte == 192;
+    if Call::from(byte).is_size() {
+        byte == 192
+    } else {
+        figures::key_of(byte) < keys
     }
-    figures::key_of(byte) < keys
 }
 
 // The row of an operation byte that is not allowed: the kind is looked at first, and then the key.
 fn fault(byte: u8) -> Refusal
     ensures { result ≡ fault_row (fault_of byte) }
 {
-    if figures::is_size(figures::call_of(byte)) {
-        return Refusal::SizeWithKey;
-    }
-    if figures::key_of(byte) < Machine::KEYS {
-        return Refusal::KeyNotBelowK;
-    }
-    Refusal::KeyTooLarge
-}
-
-// The first byte from `from` up to `end` that is no allowed operation, or `end`.
-fn wrong_operation(bytes: &[u8], keys: u8, from: usize, end: usize) -> usize
-    requires { (from ≤ end) × (end ≤ length bytes.now) }
-    ensures { result ≡ first_bad_in (operation_right keys bytes.now) from end }
-{
-    let mut p = from;
-    while p < end {
-        if !is_allowed(keys, bytes[p]) {
-            return p;
-        }
-        p = p + 1;
-    }
-    p
-}
-
-// The first byte from `from` up to `end` that names no thread, or `end`.
-fn wrong_step(bytes: &[u8], threads: u8, from: usize, end: usize) -> usize
-    requires { (from ≤ end) × (end ≤ length bytes.now) }
-    ensures { result ≡ first_bad_in (step_right threads bytes.now) from end }
-{
-    let mut p = from;
-    while p < end {
-        let step = bytes[p];
-        if threads <= step {
-            return p;
-        }
-        p = p + 1;
-    }
-    p
-}
-
-// The first of the n entries whose offset is not where the bodies before it end, or n.
-fn wrong_entry(file: &[u8], n: usize) -> usize
-    requires { (n ≤ most_threads + 1) × (entry_at n ≤ length file.now) × (n ≡ threads_in file.now + 1) }
-    ensures { result ≡ wrong_entry file.now }
-{
-    let mut i: usize = 0;
-    let mut end: usize = HEADER + ENTRY * n;
-    while i < n {
-        let p = HEADER + ENTRY * i;
-        let offset = word(file, p);
-        if offset != end {
-            return i;
-        }
-        end = end + word(file, p + 2);
-        i = i + 1;
-    }
-    i
-}
-
-// The sum of the first n counts.
-fn sum_counts(file: &[u8], n: usize) -> usize
-    requires { (n ≤ most_threads) × (entry_at n ≤ length file.now) }
-    ensures value { result ≡ sum_to (count_in file.now) n }
-    ensures upper_bound { result ≤ 65535 * n }
-{
-    let mut sum: usize = 0;
-    let mut i: usize = 0;
-    while i < n {
-        sum = sum + word(file, HEADER + ENTRY * i + 2);
-        i = i + 1;
-    }
-    sum
-}
-
-// The first n counts, and 0 for absent threads.
-fn take_counts(file: &[u8], n: usize) -> [u16; Machine::THREADS as usize]
-    requires { (n ≤ most_threads) × (entry_at n ≤ length file.now) }
-    ensures { result ≡ list_from (count_in file.now) n 0 ++ replicate (most_threads - n) 0 }
-{
-    let mut counts = [0u16; Machine::THREADS as usize];
-    let mut i: usize = 0;
-    while i < n {
-        counts[i] = narrow(word(file, HEADER + ENTRY * i + 2));
-        i = i + 1;
-    }
-    counts
-}
-
-fn not_read(why: Refusal, place: usize) -> Reading
-    ensures { result ≡ refused (number_of why) place }
-{
-    let number = why.number();
-    Reading {
-        number,
-        place,
-        threads: 0,
-        keys: 0,
-        counts: [0u16; Machine::THREADS as usize],
-        operations_at: 0,
-        operations: 0,
-        schedule_at: 0,
-        steps: 0,
+    if Call::from(byte).is_size() {
+        Refusal::SizeWithKey
+    } else if figures::key_of(byte) < Machine::KEYS {
+        Refusal::KeyNotBelowK
+    } else {
+        Refusal::KeyTooLarge
     }
 }
 
-// The bodies' rows, and the answer where they let the file pass.
-fn read_bodies(file: &[u8], operations: usize, schedule: usize, steps: usize) -> Reading
-    requires { (threads_in file.now ≤ most_threads) × (body_at (threads_in file.now) ≤ schedule) × (schedule + steps ≤ length file.now)
-        × (operations ≡ operations_in file.now) × (schedule ≡ schedule_in file.now) × (steps ≡ steps_in file.now) }
-    ensures { result ≡ decide refused (accepted file.now) (body_rows file.now) }
+// Whether a number of threads or keys is 0 or above its limit.
+fn is_outside(x: u8, most: u8) -> bool
+    ensures { result ≡ outside x most }
 {
-    let threads = file[0];
-    let keys = file[1];
-    let operations_at = HEADER + ENTRY * (wide(threads) + 1);
-    let operation = wrong_operation(file, keys, operations_at, schedule);
-    if operation < schedule {
-        return not_read(fault(file[operation]), operation);
-    }
-    let end = schedule + steps;
-    let step = wrong_step(file, threads, schedule, end);
-    if step < end {
-        return not_read(Refusal::Step, step);
-    }
-    let counts = take_counts(file, wide(threads));
-    Reading {
-        number: 0,
-        place: 0,
-        threads,
-        keys,
-        counts,
-        operations_at,
-        operations,
-        schedule_at: schedule,
-        steps,
-    }
+    !(1..=most).contains(&x)
 }
 
-// The contents table's rows, and then the bodies'.
-fn read_table(file: &[u8]) -> Reading
-    requires { (threads_in file.now ≤ most_threads) × (body_at (threads_in file.now) ≤ length file.now) }
-    ensures { result ≡ decide refused (accepted file.now)
-        (table_rows file.now ++ body_rows file.now) }
+// Refuses a number of threads or of keys that is outside its limits.
+fn check_head(threads: u8, keys: u8) -> Result<(), Refused>
+    ensures { Tested (threads_row threads ∷ keys_row keys ∷ []) result }
 {
-    let threads = wide(file[0]);
-    let entry = wrong_entry(file, threads + 1);
-    if entry < threads + 1 {
-        return not_read(Refusal::Offset, HEADER + ENTRY * entry);
+    if is_outside(threads, Machine::THREADS) {
+        return Err(Refusal::Threads.at(0));
     }
-    let operations = sum_counts(file, threads);
+    if is_outside(keys, Machine::KEYS) {
+        return Err(Refusal::Keys.at(0));
+    }
+    Ok(())
+}
+
+// Refuses too many operations or steps.
+fn check_lengths(operations: usize, steps: usize) -> Result<(), Refused>
+    ensures { Tested (operations_row operations ∷ steps_row steps ∷ []) result }
+{
     if Machine::OPERATIONS < operations {
-        return not_read(Refusal::TooManyOperations, 0);
+        return Err(Refusal::TooManyOperations.at(0));
     }
-    let steps = word(file, HEADER + ENTRY * threads + 2);
     if Machine::STEPS < steps {
-        return not_read(Refusal::TooManySteps, 0);
+        return Err(Refusal::TooManySteps.at(0));
     }
-    let schedule = word(file, HEADER + ENTRY * threads);
-    if file.len() != schedule + steps {
-        return not_read(Refusal::Length, 0);
+    Ok(())
+}
+
+// Refuses by the first byte of a part of a list that is no allowed operation.
+fn check_operations(bytes: &[u8], part: Range<usize>, keys: u8) -> Result<(), Refused>
+    requires { (part.start ≤ part.end) × (part.end ≤ length bytes.now) }
+    ensures { Tested (operation_rows keys bytes.now part.start part.end) result }
+{
+    let start = part.start;
+    match bytes[part].iter().position(|byte| !is_allowed(keys, *byte)) {
+        Some(i) => Err(fault(bytes[start + i]).at(start + i)),
+        None => Ok(()),
     }
-    read_bodies(file, operations, schedule, steps)
+}
+
+// Refuses by the first byte of a part of a list that names no thread.
+fn check_steps(bytes: &[u8], part: Range<usize>, threads: u8) -> Result<(), Refused>
+    requires { (part.start ≤ part.end) × (part.end ≤ length bytes.now) }
+    ensures { Tested (step_row threads bytes.now part.start part.end ∷ []) result }
+{
+    let start = part.start;
+    match bytes[part].iter().position(|byte| *byte >= threads) {
+        Some(i) => Err(Refusal::Step.at(start + i)),
+        None => Ok(()),
+    }
+}
+
+// A file whose head is right, and its contents table: an entry for each thread's operations, and last the schedule's.
+#[derive(Clone, Copy)]
+struct ContentsTable<'a> {
+    file: &'a [u8],
+    entries: &'a [[u8; ENTRY]],
+    ghost few: { threads_in file.now ≤ most_threads },
+    ghost whole: { body_at (threads_in file.now) ≤ length file.now },
+    ghost as_many: { length entries.now ≡ threads_in file.now + 1 },
+    ghost entries_of_file: { entries.now ≡ first_chunks ENTRY (threads_in file.now + 1) (drop HEADER file.now) },
+}
+
+impl<'a> ContentsTable<'a> {
+    // Tests the head's rows.
+    fn of(file: &'a [u8]) -> Result<ContentsTable<'a>, Refused>
+        ensures tested { Tested (head_rows file.now) result }
+        ensures same { IfOk result (λ table. table.file.now ≡ file.now) }
+    {
+        let [threads, keys, rest @ ..] = file else {
+            return Err(Refusal::NoHead.at(0));
+        };
+        check_head(*threads, *keys)?;
+        let Some(table) = rest.get(..ENTRY * (usize::from(*threads) + 1)) else {
+            return Err(Refusal::TableCutShort.at(0));
+        };
+        let (entries, _) = table.as_chunks();
+        Ok(ContentsTable { file, entries })
+    }
+
+    // Refuses by the first entry whose offset is not where the bodies before it end.
+    fn check_offsets(&self) -> Result<(), Refused>
+        ensures { Tested (offset_row self.now.file.now ∷ []) result }
+    {
+        let mut end = HEADER + ENTRY * self.entries.len();
+        for (i, bytes) in self.entries.iter().enumerate() {
+            let entry = Entry::from(*bytes);
+            if usize::from(entry.offset) != end {
+                return Err(Refusal::Offset.at(HEADER + ENTRY * i));
+            }
+            end += usize::from(entry.count);
+        }
+        Ok(())
+    }
+
+    // The counts of the threads' operations, and 0 for absent threads.
+    fn counts(&self) -> [u16; THREADS]
+        ensures { result ≡ counts_in self.now.file.now ++ replicate (most_threads - threads_in self.now.file.now) 0 }
+    {
+        let mut counts = [0; THREADS];
+        let threads = self.entries.len() - 1;
+        for (i, bytes) in self.entries[..threads].iter().enumerate() {
+            counts[i] = Entry::from(*bytes).count;
+        }
+        counts
+    }
+
+    // Tests the table's rows: what the file holds, where none applies.
+    fn layout(&self) -> Result<Layout, Refused>
+        ensures tested { Tested (table_rows self.now.file.now) result }
+        ensures value { IfOk result (λ layout. layout ≡ layout_in self.now.file.now) }
+    {
+        self.check_offsets()?;
+        let threads = self.file[0];
+        let operations_at = HEADER + ENTRY * self.entries.len();
+        let schedule = Entry::from(self.entries[usize::from(threads)]);
+        let schedule_at = usize::from(schedule.offset);
+        let operations = schedule_at - operations_at;
+        let steps = usize::from(schedule.count);
+        check_lengths(operations, steps)?;
+        if self.file.len() != schedule_at + steps {
+            return Err(Refusal::Length.at(0));
+        }
+        let counts = self.counts();
+        Ok(Layout {
+            threads,
+            keys: self.file[1],
+            counts,
+            operations_at,
+            operations,
+            schedule_at,
+            steps,
+        })
+    }
 }
 
 // Reads a run file: the first row of the table that holds, or what the file holds and where it lies.
-pub fn read(file: &[u8]) -> Reading
-    ensures { result ≡ read_of file.now }
+pub fn read(file: &[u8]) -> Result<Layout, Refused>
+    ensures { reading_of result ≡ read_of file.now }
 {
-    if file.len() < 2 {
-        return not_read(Refusal::NoHead, 0);
-    }
-    let t = file[0];
-    if is_outside(t, Machine::THREADS) {
-        return not_read(Refusal::Threads, 0);
-    }
-    if is_outside(file[1], Machine::KEYS) {
-        return not_read(Refusal::Keys, 0);
-    }
-    if file.len() < HEADER + ENTRY * (wide(t) + 1) {
-        return not_read(Refusal::TableCutShort, 0);
-    }
-    read_table(file)
+    let layout = ContentsTable::of(file)?.layout()?;
+    check_operations(file, layout.operations_at..layout.schedule_at, layout.keys)?;
+    check_steps(file, layout.schedule_at..file.len(), layout.threads)?;
+    Ok(layout)
 }
 
 // ---- The writer.
 
-fn wide_count(x: u16) -> usize
-    ensures value { result ≡ x }
-    ensures upper_bound { result < 65536 }
-{
-    x as usize
-}
-
-// The sum of a list of counts.
-fn sum_list(counts: &[u16]) -> usize
-    requires { length counts.now ≤ most_threads }
+// The sum of a few counts.
+fn sum_counts(counts: &[u16]) -> usize
+    requires { length counts.now < 256 }
     ensures { result ≡ sum_to (count_of counts.now) (length counts.now) }
 {
-    let mut sum: usize = 0;
-    let mut i: usize = 0;
-    while i < counts.len() {
-        sum = sum + wide_count(counts[i]);
-        i = i + 1;
-    }
-    sum
+    counts.iter().map(|count| usize::from(*count)).sum()
 }
 
-// Whether there are not so many counts as threads, or their sum is not the number of operations. The counts are summed only
-// where they are few, so that the sum fits.
-fn is_disagreeing(threads: u8, counts: &[u16], operations: usize) -> bool
-    requires { threads ≤ most_threads }
-    ensures { result ≡ disagree threads counts.now operations }
+// These bytes from a place on.
+fn put(out: &mut [u8], at: usize, bytes: &[u8])
+    requires { at + length bytes.now ≤ length out.old }
+    ensures { out.new ≡ sets out.old at bytes.now }
 {
-    if counts.len() != wide(threads) {
-        return true;
-    }
-    let sum = sum_list(counts);
-    sum != operations
-}
-
-fn not_written(why: Refusal, place: usize) -> Writing
-    ensures { result ≡ unwritten (number_of why) place }
-{
-    let number = why.number();
-    Writing {
-        number,
-        place,
-        length: 0,
-    }
-}
-
-// The writer's last rows, of contents that are few enough: the bodies' and the room.
-fn judge_bodies(
-    threads: u8,
-    keys: u8,
-    counts: &[u16],
-    operations: &[u8],
-    schedule: &[u8],
-    room: usize,
-) -> Writing
-    requires { (length counts.now ≡ threads) × (threads ≤ most_threads) × (length operations.now ≤ most_operations)
-        × (length schedule.now ≤ most_steps) }
-    ensures { result ≡ decide unwritten (written threads keys counts.now operations.now schedule.now)
-        (writer_body_rows threads keys counts.now operations.now schedule.now room) }
-{
-    let operation = wrong_operation(operations, keys, 0, operations.len());
-    if operation < operations.len() {
-        return not_written(fault(operations[operation]), operation);
-    }
-    let step = wrong_step(schedule, threads, 0, schedule.len());
-    if step < schedule.len() {
-        return not_written(Refusal::Step, step);
-    }
-    let length = HEADER + ENTRY * (counts.len() + 1) + operations.len() + schedule.len();
-    if room < length {
-        return not_written(Refusal::TooSmall, 0);
-    }
-    Writing {
-        number: 0,
-        place: 0,
-        length,
-    }
-}
-
-// The writer's answer, before anything is written.
-fn judge(
-    threads: u8,
-    keys: u8,
-    counts: &[u16],
-    operations: &[u8],
-    schedule: &[u8],
-    room: usize,
-) -> Writing
-    ensures { result ≡ write_of threads keys counts.now operations.now schedule.now room }
-{
-    if is_outside(threads, Machine::THREADS) {
-        return not_written(Refusal::Threads, 0);
-    }
-    if is_outside(keys, Machine::KEYS) {
-        return not_written(Refusal::Keys, 0);
-    }
-    if is_disagreeing(threads, counts, operations.len()) {
-        return not_written(Refusal::Lists, 0);
-    }
-    if Machine::OPERATIONS < operations.len() {
-        return not_written(Refusal::TooManyOperations, 0);
-    }
-    if Machine::STEPS < schedule.len() {
-        return not_written(Refusal::TooManySteps, 0);
-    }
-    judge_bodies(threads, keys, counts, operations, schedule, room)
-}
-
-fn low(x: usize) -> u8
-    ensures { result ≡ x % 256 }
-{
-    (x % 256) as u8
-}
-
-fn high(x: usize) -> u8
-    requires { x < 65536 }
-    ensures { result ≡ x / 256 }
-{
-    (x / 256) as u8
-}
-
-// One contents entry, at p: where the body is, and how long.
-fn put_entry(out: &mut [u8], p: usize, offset: usize, count: usize)
-    requires { (p + 4 ≤ length out.old) × (offset < 65536) × (count < 65536) }
-    ensures { out.new ≡ sets out.old p (entries offset (count ∷ [])) }
-{
-    out[p] = low(offset);
-    out[p + 1] = high(offset);
-    out[p + 2] = low(count);
-    out[p + 3] = high(count);
+    out[at..at + bytes.len()].copy_from_slice(bytes);
 }
 
 // An entry for each count, the first body at `body`.
-fn put_entries(out: &mut [u8], counts: &[u16], body: usize)
+fn put_entries(out: &mut [u8], counts: &[u16], body: u16)
     requires { (length counts.now ≤ most_threads) × (entry_at (length counts.now) ≤ length out.old)
         × (body + sum_to (count_of counts.now) (length counts.now) < 65536) }
-    ensures { out.new ≡ sets out.old 2 (entries body counts.now) }
+    ensures { out.new ≡ sets out.old HEADER (entries body counts.now) }
 {
     let mut offset = body;
-    let mut i: usize = 0;
-    while i < counts.len() {
-        let count = wide_count(counts[i]);
-        put_entry(out, HEADER + ENTRY * i, offset, count);
-        offset = offset + count;
-        i = i + 1;
+    for (i, &count) in counts.iter().enumerate() {
+        let entry = Entry { offset, count };
+        put(out, HEADER + ENTRY * i, &entry.to_bytes());
+        offset += count;
     }
 }
 
-// The bytes of a body, from `from` on.
-fn put_bytes(out: &mut [u8], from: usize, bytes: &[u8])
-    requires { from + length bytes.now ≤ length out.old }
-    ensures { out.new ≡ sets out.old from bytes.now }
-{
-    let mut i: usize = 0;
-    while i < bytes.len() {
-        out[from + i] = bytes[i];
-        i = i + 1;
+impl Contents<'_> {
+    // Whether there are not so many counts as threads, or their sum is not the number of operations. The counts are summed only
+    // where they are few, so that the sum fits.
+    fn is_disagreeing(&self) -> bool
+        ensures { result ≡ disagree self.now.threads self.now.counts.now (length self.now.operations.now) }
+    {
+        self.counts.len() != usize::from(self.threads)
+            || sum_counts(self.counts) != self.operations.len()
     }
-}
 
-// The whole file, of contents that are right, where there is room.
-fn fill(threads: u8, keys: u8, counts: &[u16], operations: &[u8], schedule: &[u8], out: &mut [u8])
-    requires { (length counts.now ≡ threads) × (threads ≤ most_threads) × (length operations.now ≤ most_operations)
-        × (length schedule.now ≤ most_steps) × (sum_to (count_of counts.now) (length counts.now) ≡ length operations.now)
-        × (length (file_of threads keys counts.now operations.now schedule.now) ≤ length out.old) }
-    ensures { out.new ≡ sets out.old 0
-        (file_of threads keys counts.now operations.now schedule.now) }
-{
-    let body = HEADER + ENTRY * (counts.len() + 1);
-    let end = body + operations.len();
-    out[0] = threads;
-    out[1] = keys;
-    put_entries(out, counts, body);
-    put_entry(out, HEADER + ENTRY * counts.len(), end, schedule.len());
-    put_bytes(out, body, operations);
-    put_bytes(out, end, schedule);
+    // Tests the writer's rows: the file's length, where none applies.
+    fn judge(&self, room: usize) -> Result<usize, Refused>
+        ensures tested { Tested (rows_against self.now room) result }
+        ensures value { IfOk result (λ n. n ≡ length (file_made self.now)) }
+    {
+        check_head(self.threads, self.keys)?;
+        if self.is_disagreeing() {
+            return Err(Refusal::Lists.at(0));
+        }
+        check_lengths(self.operations.len(), self.schedule.len())?;
+        check_operations(self.operations, 0..self.operations.len(), self.keys)?;
+        check_steps(self.schedule, 0..self.schedule.len(), self.threads)?;
+        let length = HEADER
+            + ENTRY * (self.counts.len() + 1)
+            + self.operations.len()
+            + self.schedule.len();
+        if room < length {
+            return Err(Refusal::TooSmall.at(0));
+        }
+        Ok(length)
+    }
+
+    // The whole file, of contents that are right, where there is room.
+    // stays: `as`, since no `From` narrows, and the check shows that nothing is lost
+    fn fill(&self, out: &mut [u8])
+        requires { Passes (rows_against self.now (length out.old)) }
+        ensures { out.new ≡ sets out.old 0 (file_made self.now) }
+    {
+        let body = HEADER + ENTRY * (self.counts.len() + 1);
+        let end = body + self.operations.len();
+        out[0] = self.threads;
+        out[1] = self.keys;
+        put_entries(out, self.counts, body as u16);
+        let schedule = Entry {
+            offset: end as u16,
+            count: self.schedule.len() as u16,
+        };
+        put(
+            out,
+            HEADER + ENTRY * self.counts.len(),
+            &schedule.to_bytes(),
+        );
+        put(out, body, self.operations);
+        put(out, end, self.schedule);
+    }
 }
 
 // Writes a run file into `out` and answers its length; or refuses, and writes nothing.
-pub fn write(
-    threads: u8,
-    keys: u8,
-    counts: &[u16],
-    operations: &[u8],
-    schedule: &[u8],
-    out: &mut [u8],
-) -> Writing
-    ensures value { result ≡ write_of threads keys counts.now operations.now schedule.now
-        (length out.old) }
+pub fn write(contents: Contents<'_>, out: &mut [u8]) -> Result<usize, Refused>
+    ensures value { writing_of result ≡ write_of contents.entry.threads contents.entry.keys contents.entry.counts.now
+        contents.entry.operations.now contents.entry.schedule.now (length out.old) }
     ensures out_after { out.new ≡ sets out.old 0
-        (written_of threads keys counts.now operations.now schedule.now (length out.old)) }
+        (written_of contents.entry.threads contents.entry.keys contents.entry.counts.now contents.entry.operations.now
+        contents.entry.schedule.now (length out.old)) }
 {
-    let answer = judge(threads, keys, counts, operations, schedule, out.len());
-    if answer.number == 0 {
-        fill(threads, keys, counts, operations, schedule, out);
-    }
-    answer
+    let length = contents.judge(out.len())?;
+    contents.fill(out);
+    Ok(length)
 }

@@ -1,128 +1,166 @@
 // What the writer answers to a few lists, in the order of its tests, and the whole output afterwards.
 #![tactic(auto)]
 
-ghost use Rattle.std.specs.Prelude.{◌≡◌, ◌+◌, length};
-ghost use Rattle.figures.specs.Limits.{most_steps};
-
 use figures::Machine;
+use runfile::Contents;
 use std::io;
-
-fn say(rt: &impl Print, words: &str) -> io::Result<()> {
-    print!(rt; "{words}")
-}
-// A schedule that is one step too long.
-fn long_schedule() -> [u8; Machine::STEPS + 1]
-    ensures { most_steps + 1 ≡ length result }
-{
-    [0; Machine::STEPS + 1]
-}
-
-fn say_refusal(rt: &impl Print, number: u32, place: usize) -> io::Result<()> {
-    println!(rt; "refused {number} at {place}")
-}
-
-fn wide(x: u8) -> u64 {
-    x as u64
-}
 
 // A line of numbers.
 fn say_numbers(rt: &impl Print, bytes: &[u8]) -> io::Result<()> {
     for byte in bytes {
-        let number = wide(*byte);
-        print!(rt; " {number}")?;
+        print!(rt; " {byte}")?;
     }
-    say(rt, "\n")
+    println!(rt)
 }
 
 // What the writer answers, and the whole output after: sevens, where it wrote nothing.
-fn try_write(
-    rt: &impl Print,
-    threads: u8,
-    keys: u8,
-    counts: &[u16],
-    operations: &[u8],
-    schedule: &[u8],
-    out: &mut [u8],
-) -> io::Result<()> {
-    let w = runfile::write(threads, keys, counts, operations, schedule, out);
-    if w.number == 0 {
-        let length = w.length;
-        println!(rt; "written {length}")?;
-    } else {
-        say_refusal(rt, w.number, w.place)?;
+fn try_write(rt: &impl Print, contents: Contents<'_>, out: &mut [u8]) -> io::Result<()> {
+    match runfile::write(contents, out) {
+        Ok(length) => println!(rt; "written {length}")?,
+        Err(refused) => println!(rt; "{refused}")?,
     }
     say_numbers(rt, out)
 }
 
-// Too many operations and too many steps, and then too many steps alone.
-fn try_many(rt: &impl Print, out: &mut [u8]) -> io::Result<()> {
-    let many = [65u16; 1];
-    let none = [0u16; 1];
-    let calls = [0u8; Machine::OPERATIONS + 1];
-    let steps = long_schedule();
-    try_write(rt, 1, 1, &many, &calls, &steps, out)?;
-    try_write(rt, 1, 1, &none, b"", &steps, out)
+// The same of each in turn.
+fn try_each(rt: &impl Print, lists: &[Contents<'_>], out: &mut [u8]) -> io::Result<()> {
+    for contents in lists {
+        try_write(rt, *contents, out)?;
+    }
+    Ok(())
 }
 
-// Counts that disagree with the threads or the operations, before anything else is wrong.
-fn try_counts(rt: &impl Print, out: &mut [u8]) -> io::Result<()> {
-    let none = [0u16; 1];
-    let one = [1u16; 1];
-    let calls = [0u8; Machine::OPERATIONS + 1];
-    try_write(rt, 2, 1, &none, &calls, b"\x00\x00", out)?;
-    try_write(rt, 1, 1, &one, b"", b"\x00\x00", out)
+// Contents that are right: one thread with no operations, one key, two steps.
+fn idle<'a>() -> Contents<'a> {
+    Contents {
+        threads: 1,
+        keys: 1,
+        counts: &[0],
+        operations: b"",
+        schedule: b"\x00\x00",
+    }
+}
+
+// Counts that disagree with the threads or the operations, before anything else is wrong; then too many operations and too many
+// steps, and then too many steps alone.
+fn try_lengths(rt: &impl Print, out: &mut [u8]) -> io::Result<()> {
+    let calls = [0; Machine::OPERATIONS + 1];
+    let steps = [0; Machine::STEPS + 1];
+    let lists = [
+        Contents {
+            threads: 2,
+            operations: &calls,
+            ..idle()
+        },
+        Contents {
+            counts: &[1],
+            ..idle()
+        },
+        Contents {
+            counts: &[65],
+            operations: &calls,
+            schedule: &steps,
+            ..idle()
+        },
+        Contents {
+            schedule: &steps,
+            ..idle()
+        },
+    ];
+    try_each(rt, &lists, out)
 }
 
 // One operation byte that is not allowed: a size with a key, key K, key 16 where there are 16 keys; and key K before a schedule byte
 // that names no thread.
 fn try_faults(rt: &impl Print, out: &mut [u8]) -> io::Result<()> {
-    let one = [1u16; 1];
-    try_write(rt, 1, 16, &one, b"\xff", b"\x00", out)?;
-    try_write(rt, 1, 12, &one, b"\x0c", b"\x00", out)?;
-    try_write(rt, 1, 16, &one, b"\x10", b"\x00", out)?;
-    try_write(rt, 1, 12, &one, b"\x8c", b"\x01", out)
+    for (keys, operation, step) in [(16, 0xff, 0), (12, 0x0c, 0), (16, 0x10, 0), (12, 0x8c, 1)] {
+        let contents = Contents {
+            keys,
+            counts: &[1],
+            operations: &[operation],
+            schedule: &[step],
+            ..idle()
+        };
+        try_write(rt, contents, out)?;
+    }
+    Ok(())
 }
 
-// A right byte, and then an insert with key 16, a delete with key K and a size with a key, in each order: the first decides. A key first.
-fn try_key_first(rt: &impl Print, out: &mut [u8]) -> io::Result<()> {
-    let four = [4u16; 1];
-    try_write(rt, 1, 12, &four, b"\x0b\x10\x4c\xff", b"\x00", out)?;
-    try_write(rt, 1, 12, &four, b"\x0b\x10\xff\x4c", b"\x00", out)?;
-    try_write(rt, 1, 12, &four, b"\x0b\x4c\x10\xff", b"\x00", out)?;
-    try_write(rt, 1, 12, &four, b"\x0b\x4c\xff\x10", b"\x00", out)
-}
-
-// The size first.
-fn try_size_first(rt: &impl Print, out: &mut [u8]) -> io::Result<()> {
-    let four = [4u16; 1];
-    try_write(rt, 1, 12, &four, b"\x0b\xff\x10\x4c", b"\x00", out)?;
-    try_write(rt, 1, 12, &four, b"\x0b\xff\x4c\x10", b"\x00", out)
+// A right byte, and then an insert with key 16, a delete with key K and a size with a key, in each order: the first decides.
+fn try_first(rt: &impl Print, out: &mut [u8]) -> io::Result<()> {
+    let orders = [
+        b"\x0b\x10\x4c\xff",
+        b"\x0b\x10\xff\x4c",
+        b"\x0b\x4c\x10\xff",
+        b"\x0b\x4c\xff\x10",
+        b"\x0b\xff\x10\x4c",
+        b"\x0b\xff\x4c\x10",
+    ];
+    for operations in orders {
+        let contents = Contents {
+            keys: 12,
+            counts: &[4],
+            operations,
+            schedule: b"\x00",
+            ..idle()
+        };
+        try_write(rt, contents, out)?;
+    }
+    Ok(())
 }
 
 // Wrong bytes, and then none.
 fn try_bytes(rt: &impl Print, out: &mut [u8]) -> io::Result<()> {
-    let none = [0u16; 1];
-    let one = [1u16; 1];
-    let two = [2u16; 1];
-    try_write(rt, 1, 1, &two, b"\x00\x01", b"\x00\x00", out)?;
-    try_write(rt, 1, 16, &one, b"\xc1", b"\x01", out)?;
-    try_write(rt, 1, 1, &none, b"", b"\x00\x01", out)?;
-    try_write(rt, 1, 1, &none, b"", b"\x00\x00", out)
+    let lists = [
+        Contents {
+            counts: &[2],
+            operations: b"\x00\x01",
+            ..idle()
+        },
+        Contents {
+            keys: 16,
+            counts: &[1],
+            operations: b"\xc1",
+            schedule: b"\x01",
+            ..idle()
+        },
+        Contents {
+            schedule: b"\x00\x01",
+            ..idle()
+        },
+        idle(),
+    ];
+    try_each(rt, &lists, out)
 }
 
-// Too little room, numbers of threads and keys outside their limits, and the rest in the writer's order.
+// Numbers of threads and keys outside their limits.
+fn try_limits(rt: &impl Print, out: &mut [u8]) -> io::Result<()> {
+    let lists = [
+        Contents {
+            threads: 0,
+            keys: 0,
+            ..idle()
+        },
+        Contents {
+            threads: 9,
+            ..idle()
+        },
+        Contents {
+            keys: 17,
+            operations: b"\x00",
+            ..idle()
+        },
+    ];
+    try_each(rt, &lists, out)
+}
+
+// Too little room, and then the rest in the writer's order.
 fn main(rt: HostRuntime) -> io::Result<()> {
-    let mut out = [7u8; 14];
-    let mut short = [7u8; 11];
-    let none = [0u16; 1];
-    try_write(&rt, 1, 1, &none, b"", b"\x00\x00", &mut short)?;
-    try_write(&rt, 0, 0, &none, b"", b"\x00\x00", &mut out)?;
-    try_write(&rt, 9, 1, &none, b"", b"\x00\x00", &mut out)?;
-    try_write(&rt, 1, 17, &none, b"\x00", b"\x00\x00", &mut out)?;
-    try_counts(&rt, &mut out)?;
-    try_many(&rt, &mut out)?;
+    let mut out = [7; 14];
+    try_write(&rt, idle(), &mut [7; 11])?;
+    try_limits(&rt, &mut out)?;
+    try_lengths(&rt, &mut out)?;
     try_faults(&rt, &mut out)?;
-    try_key_first(&rt, &mut out)?;
-    try_size_first(&rt, &mut out)?;
+    try_first(&rt, &mut out)?;
     try_bytes(&rt, &mut out)
 }

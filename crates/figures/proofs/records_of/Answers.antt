@@ -1,35 +1,42 @@
-use Rattle.std.proofs.Common.{arith, ◌≡◌, ◌<◌, sym, ◌∙◌, ℕ, suc, ◌+◌, ◌≤◌, List, [], ◌∷◌, length, get_or, drop, refl, add-one}
-use Rattle.std.proofs.Math.ListN.{set, length-set, drop_of_length-le}
-use Rattle.std.proofs.Math.Seq.{drop-cons, set_out}
+use Rattle.std.proofs.Common.{◌≡◌, ◌<◌, sym, ◌∙◌, ℕ, suc, ◌+◌, ◌≤◌, List, [], ◌∷◌, length, get_or, set, drop, refl, add-one, arith}
+use Rattle.std.proofs.lemmas.List.{length-set, set-get_or, set_past, drop_more, drop_all, get_or_read}
 use Rattle.std.proofs.lemmas.List.Edits.{sets}
+use borrow.Author.Tests.{ltb-true, ltb-false}
 use Rattle.figures.specs.declared.Record.{Record}
 use Rattle.figures.specs.Start.{unbegun, owner_of, records_of}
+use Rattle.figures.proofs.records_of.Goals.{in-Some, in_default}
 use Rattle.figures.proofs.records_of.Goals as goal
 
 -- stores beyond the end change nothing
-sets_out : (l : List Record) (i : ℕ) (vs : List Record) → length l ≤ i → sets l i vs ≡ l
-sets_out l i [] h = refl
-sets_out l i (a ∷ vs) h = sets_out (set l i a) (suc i) vs (rw length-set (omega arith)) ∙ set_out l i a h
+sets_past : (l : List Record) (i : ℕ) (vs : List Record) → length l ≤ i → sets l i vs ≡ l
+sets_past l i [] h = refl
+sets_past l i (a ∷ vs) h = sets_past (set l i a) (suc i) vs (rw length-set (omega arith)) ∙ set_past l i a h
 
 module _ (cs ops : List ℕ) (rs : List Record) (i : ℕ) where
-  more : (o : ℕ) (r : Record) → i < length ops → o ≡ owner_of cs i → r ≡ unbegun o (get_or ops i 0) →
+  more : (r : Record) → i < length ops → r ≡ unbegun (owner_of cs i) (get_or ops i 0) →
       sets (set rs i r) (i + 1) (records_of cs (i + 1) (drop (i + 1) ops)) ≡ sets rs i (records_of cs i (drop i ops))
   unfolding records_of
-  more o r h e f = rw (drop-cons ops i 0 h, f, e, add-one)
+  more r h e = rw (drop_more ops i 0 h, e, add-one)
 
-  none : length ops ≤ i → sets rs i (records_of cs i (drop i ops)) ≡ rs
+  none : length ops ≤ i → sets rs (i + 1) (records_of cs (i + 1) (drop (i + 1) ops)) ≡ sets rs i (records_of cs i (drop i ops))
   unfolding records_of
-  none h = rw (drop_of_length-le ops {i = i} h)
+  none h = rw (drop_all i ops h, drop_all (i + 1) ops (omega arith))
 
-pub loop-i-preserved : goal.loop-i-preserved
-loop-i-preserved c =
-    let e = more c.args.counts c.args.operations.now c.loop-i.records c.loop-i.i c.owner_of.result c.unbegun.result c.if-i-operations.true c.owner_of.ensures c.unbegun.ensures in
-    record { below = omega arith; long = rw length-set c.loop-i.invariant.long; same = e ∙ c.loop-i.invariant.same }
+pub loop-o-preserved : goal.loop-o-preserved
+loop-o-preserved c =
+    let cs = c.args.counts in
+    let ops = c.args.operations.now in
+    elim c.match-get.branch [
+      | in-Some w ↦
+          let at = w.in-Some.ensures.lookup in
+          let here : c.loop-o.o < length ops = ltb-true c.loop-o.o (length ops) (sym at.0) in
+          let e = more cs ops c.loop-o.record-items c.loop-o.o w.unbegun.result here (rw (← w.owner_of.ensures, ← get_or_read ops c.loop-o.o w.in-Some.b.now here at.1 0) w.unbegun.ensures) in
+          rw w.record-items-is record { long = rw length-set c.loop-o.invariant.long; same = e ∙ c.loop-o.invariant.same }
+      | in_default w ↦
+          let past : length ops ≤ c.loop-o.o = ltb-false c.loop-o.o (length ops) (sym w.in_default.ensures.lookup.0) in
+          rw (w.record-items-is ∙ set-get_or c.loop-o.record-items c.loop-o.o _) record { long = c.loop-o.invariant.long; same = none cs ops c.loop-o.record-items c.loop-o.o past ∙ c.loop-o.invariant.same }
+    ]
 
-pub returns-else-i-operations : goal.returns-else-i-operations
-returns-else-i-operations c =
-    sym (none c.args.counts c.args.operations.now c.loop-i.records c.loop-i.i c.if-i-operations.false) ∙ c.loop-i.invariant.same
-
-pub returns-after-loop-i : goal.returns-after-loop-i
-returns-after-loop-i c =
-    sym (sets_out c.loop-i.records c.loop-i.i (records_of c.args.counts c.loop-i.i (drop c.loop-i.i c.args.operations.now)) (omega arith)) ∙ c.loop-i.invariant.same
+pub returns : goal.returns
+returns c =
+    sym (sets_past c.loop-o.record-items c.loop-o.o (records_of c.args.counts c.loop-o.o (drop c.loop-o.o c.args.operations.now)) (omega arith)) ∙ c.loop-o.invariant.same

@@ -1,26 +1,38 @@
-use Rattle.std.proofs.Common.{arith}
-use Rattle.lent.proofs.Openings.{reading_lies, opened_is}
+use Rattle.std.proofs.Common.{arith, refl}
+use Rattle.lent.proofs.Openings.{lies, lacking_refused, table_refused, room_opens}
 use Rattle.lent.proofs.opening.Goals as goal
+use Rattle.lent.proofs.opening.Goals.{then-lacks_room-via-then-lacks_room, then-lacks_room-via-else-lacks_room+then-table-sizes_in}
 
-pub slice_bounds-sizes_in-count : goal.slice_bounds-sizes_in-count
-slice_bounds-sizes_in-count c = let a = reading_lies c.args.file.now c.read-r.ensures in omega (arith, a.next)
+pub slice_bounds-operations-count : goal.slice_bounds-operations-count
+slice_bounds-operations-count c = let a = lies c.args.file.now c.in_ok-layout.layout c.in_ok-layout.ensures in omega (arith, a.schedule_next)
 
-pub slice_bounds-sizes_in-start : goal.slice_bounds-sizes_in-start
-slice_bounds-sizes_in-start c = let a = reading_lies c.args.file.now c.read-r.ensures in omega (arith, a.next, a.ends)
+pub slice_bounds-operations-start : goal.slice_bounds-operations-start
+slice_bounds-operations-start c = let a = lies c.args.file.now c.in_ok-layout.layout c.in_ok-layout.ensures in omega (arith, a.schedule_next)
 
-pub slice_bounds-sizes_in-end : goal.slice_bounds-sizes_in-end
-slice_bounds-sizes_in-end c = let a = reading_lies c.args.file.now c.read-r.ensures in omega (arith, a.next, a.ends)
+pub slice_bounds-operations-end : goal.slice_bounds-operations-end
+slice_bounds-operations-end c = let a = lies c.args.file.now c.in_ok-layout.layout c.in_ok-layout.ensures in omega (arith, a.file_ends)
 
-pub slice_bounds-start-count : goal.slice_bounds-start-count
-slice_bounds-start-count c = let a = reading_lies c.args.file.now c.read-r.ensures in omega (arith, a.next)
+pub slice_bounds-result-count : goal.slice_bounds-result-count
+slice_bounds-result-count c = let a = lies c.args.file.now c.in_ok-layout.layout c.in_ok-layout.ensures in omega (arith, a.file_ends)
 
-pub slice_bounds-start-start : goal.slice_bounds-start-start
-slice_bounds-start-start c = let a = reading_lies c.args.file.now c.read-r.ensures in omega (arith, a.next, a.ends)
+pub slice_bounds-result-start : goal.slice_bounds-result-start
+slice_bounds-result-start c = let a = lies c.args.file.now c.in_ok-layout.layout c.in_ok-layout.ensures in omega (arith, a.file_ends)
 
-pub slice_bounds-start-end : goal.slice_bounds-start-end
-slice_bounds-start-end c = let a = reading_lies c.args.file.now c.read-r.ensures in omega (arith, a.next, a.ends)
-
-pub returns : goal.returns
-returns c =
+pub returns-then-lacks_room-clause-refused : goal.returns-then-lacks_room-clause-refused
+returns-then-lacks_room-clause-refused c =
     let a = c.args in
-    opened_is a.file.now a.results a.log a.table c.read-r.ensures c.lacks_room.ensures c.sizes_in-sizes.ensures c.lowest-number.ensures c.start.ensures c.rest_of-rest.ensures
+    let l = c.in_ok-layout in
+    let lacks = c.lacks_room.ensures in
+    rw c.at.ensures
+    (elim c.then-lacks_room.branch [
+      | then-lacks_room-via-then-lacks_room w ↦ lacking_refused a.file.now l.layout l.ensures a.results a.log a.table lacks w.if-lacks_room.true
+      | then-lacks_room-via-else-lacks_room+then-table-sizes_in w ↦
+          table_refused a.file.now l.layout l.ensures a.results a.log a.table lacks w.sizes_in.ensures w.if-table-sizes_in.true
+    ])
+
+pub returns-clause-opened : goal.returns-clause-opened
+returns-clause-opened c =
+    let a = c.args in
+    let l = c.in_ok-layout in
+    room_opens a.file.now l.layout l.ensures a.results a.log a.table c.lacks_room.ensures c.sizes_in.ensures c.if-lacks_room.false
+    (omega arith) c.start-start.ensures refl refl c.rest_of.ensures

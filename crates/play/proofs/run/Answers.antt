@@ -1,6 +1,7 @@
-use Rattle.std.proofs.Common.{◌≡◌, ap, sym, ◌∙◌, length}
-use Rattle.runfile.specs.declared.Reading.{Reading}
+use Rattle.std.proofs.Common.{◌≡◌, Result, Ok, Err, OnOk, ap, sym, ◌∙◌, length, rules}
 use Rattle.runfile.specs.Read.{read_of}
+use Rattle.runfile.specs.Answers.{reading_of}
+use Rattle.runfile.proofs.Answers.{accepted_number, accepted_operations}
 use Rattle.machine.specs.declared.Rest.{Rest}
 use Rattle.machine.specs.Parts.{whole_of}
 use Rattle.play.specs.Run.{machine_of}
@@ -8,19 +9,23 @@ use Rattle.play.proofs.Accepted.{demand_held}
 use Rattle.play.proofs.Decided.{hands_file}
 use Rattle.play.proofs.run.Goals as goal
 
+on_ok : {T E P : Type 0} (r : Result T E) → P → OnOk r P
+on_ok (Ok x) p = p
+on_ok (Err e) p = tt
+
 pub returns : goal.returns
 returns c =
     let f = c.args.file.now in
-    let e = c.read-r.ensures in
-    let z : (read_of f).number ≡ 0 = ap (λ (r : Reading). r.number) (sym e) ∙ c.if-r-ne0.false in
-    let m = c.played in
+    let layout = c.in_ok-layout.layout in
+    let e : reading_of (Ok layout) ≡ read_of f = search rules in
+    let m = c.machine_after in
     let is : whole_of c.rest_of.result m.result.calculator.counters m.result.calculator.snapshots ≡ machine_of f =
     ap (λ (x : Rest). whole_of x m.result.calculator.counters m.result.calculator.snapshots) c.rest_of.ensures ∙ m.ensures in
     let h = c.hand_back.ensures in
-    let k = hands_file f (length c.args.results.now) (length c.args.log.now) z is (ap (λ (r : Reading). r.operations) e) in
+    let k = hands_file f (length c.args.results.now) (length c.args.log.now) (accepted_number f layout e) is (sym (accepted_operations f layout e)) in
     record {
       value = h.value ∙ k.told;
       results_after = h.results_after ∙ k.in_results c.args.results.now;
       log_after = h.log_after ∙ k.in_log c.args.log.now;
-      meets = λ y. demand_held f z;
+      meets = on_ok c.hand_back.result (demand_held f (accepted_number f layout e));
     }

@@ -1,13 +1,8 @@
-use Rattle.std.proofs.Common.{refl, arith}
-use Rattle.runfile.specs.Rows.{sum_to}
-use Rattle.runfile.specs.Layout.{count_in}
-use Rattle.runfile.proofs.Laws.{sum_on}
+use Rattle.std.proofs.Common.{◌≡◌, sum, rules, ◌∙◌}
+use Rattle.runfile.proofs.Laws.{sum_all}
 use Rattle.runfile.proofs.sum_counts.Goals as goal
 
-pub loop-i-init : goal.loop-i-init
-unfolding sum_to
-loop-i-init c = record { below = omega arith; small = omega arith; same = refl }
-
-pub loop-i-preserved : goal.loop-i-preserved
-loop-i-preserved c =
-    record { below = omega arith; small = omega arith; same = omega (arith, sum_on (count_in c.args.file.now) c.loop-i.i) }
+pub returns : goal.returns
+returns c =
+    let told : c.sum.result ≡ sum c.args.counts.now = search rules in
+    told ∙ sum_all c.args.counts.now

@@ -1,28 +1,26 @@
-use Rattle.std.proofs.Common.{◌≡◌, length, ap, arith}
-use Rattle.runfile.specs.declared.Writing.{Writing}
-use Rattle.runfile.specs.Write.{write_of}
-use Rattle.runfile.proofs.Writer.{ready, writes_file, writes_nothing}
+use Rattle.std.proofs.Common.{length, sym}
+use Rattle.std.proofs.lemmas.Result.{err_from_is_err_and}
+use Rattle.runfile.proofs.Writer.{write_passes, write_stops, file_passes, file_stops}
 use Rattle.runfile.proofs.write.Goals as goal
 
-pub fill-requires : goal.fill-requires
-fill-requires c =
-    let a = c.args in
-    let told : c.judge-answer.result.number ≡ (write_of a.threads a.keys a.counts.now a.operations.now a.schedule.now (length a.out.now)).number =
-    ap (λ (w : Writing). w.number) c.judge-answer.ensures in
-    let zero : (write_of a.threads a.keys a.counts.now a.operations.now a.schedule.now (length a.out.now)).number ≡ 0 = omega arith in
-    ready a.threads a.keys a.counts.now a.operations.now a.schedule.now (length a.out.now) zero
+pub returns-in_err-length-clause-value : goal.returns-in_err-length-clause-value
+returns-in_err-length-clause-value c =
+    let s = c.args.contents in
+    let p = err_from_is_err_and c.from_residual.result c.from_residual.ensures.1 in
+    rw (p.1, p.2) (sym (write_stops s.threads s.keys s.counts.now s.operations.now s.schedule.now (length c.args.out.now) c.in_err-length.ensures.tested))
 
-pub returns-then-answer-eq0-clause-out_after : goal.returns-then-answer-eq0-clause-out_after
-returns-then-answer-eq0-clause-out_after c =
-    let a = c.args in
-    let told : c.judge-answer.result.number ≡ (write_of a.threads a.keys a.counts.now a.operations.now a.schedule.now (length a.out.now)).number =
-    ap (λ (w : Writing). w.number) c.judge-answer.ensures in
-    let zero : (write_of a.threads a.keys a.counts.now a.operations.now a.schedule.now (length a.out.now)).number ≡ 0 = omega arith in
-    rw (writes_file a.threads a.keys a.counts.now a.operations.now a.schedule.now (length a.out.now) zero) c.fill.ensures
+pub returns-in_err-length-clause-out_after : goal.returns-in_err-length-clause-out_after
+returns-in_err-length-clause-out_after c =
+    let s = c.args.contents in
+    rw (file_stops s.threads s.keys s.counts.now s.operations.now s.schedule.now (length c.args.out.now) c.in_err-length.ensures.tested)
 
-pub returns-else-answer-eq0-clause-out_after : goal.returns-else-answer-eq0-clause-out_after
-returns-else-answer-eq0-clause-out_after c =
-    let a = c.args in
-    let told : c.judge-answer.result.number ≡ (write_of a.threads a.keys a.counts.now a.operations.now a.schedule.now (length a.out.now)).number =
-    ap (λ (w : Writing). w.number) c.judge-answer.ensures in
-    rw (writes_nothing a.threads a.keys a.counts.now a.operations.now a.schedule.now (length a.out.now) (λ z. omega arith))
+pub returns-clause-value : goal.returns-clause-value
+returns-clause-value c =
+    let s = c.args.contents in
+    rw c.in_ok-length.ensures.value
+    (sym (write_passes s.threads s.keys s.counts.now s.operations.now s.schedule.now (length c.args.out.now) c.in_ok-length.ensures.tested))
+
+pub returns-clause-out_after : goal.returns-clause-out_after
+returns-clause-out_after c =
+    let s = c.args.contents in
+    rw (file_passes s.threads s.keys s.counts.now s.operations.now s.schedule.now (length c.args.out.now) c.in_ok-length.ensures.tested) c.fill.ensures

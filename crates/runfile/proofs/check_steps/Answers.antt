@@ -1,0 +1,20 @@
+use Rattle.std.proofs.Common.{◌-◌, rules, arith, tests, ltb, not, take, drop}
+use Rattle.std.proofs.lemmas.Iterator.{YieldsList-from_slice}
+use Rattle.std.proofs.lemmas.Iterator.Search.{position_from_yields_List}
+use Rattle.runfile.proofs.First.{found}
+use Rattle.runfile.proofs.Operations.{step_stops, step_passes}
+use Rattle.runfile.proofs.check_steps.Goals as goal
+
+pub returns-in-Some : goal.returns-in-Some
+returns-in-Some c =
+    let a = c.args in
+    let p = position_from_yields_List (λ b. not (ltb b a.threads)) _ _ _ c.in-Some.ensures.ran (YieldsList-from_slice (take (a.part.end - a.part.start) (drop a.part.start a.bytes.now)) cc) (λ x b q k. search (rules, tests)) in
+    let f = found (λ b. ltb b a.threads) a.bytes.now a.part.start a.part.end c.requires.0 c.requires.1 _ p in
+    rw c.at.ensures (step_stops a.threads a.bytes.now a.part.start a.part.end f.0 f.1)
+
+pub returns-in-None : goal.returns-in-None
+returns-in-None c =
+    let a = c.args in
+    let p = position_from_yields_List (λ b. not (ltb b a.threads)) _ _ _ c.in-None.ensures.ran (YieldsList-from_slice (take (a.part.end - a.part.start) (drop a.part.start a.bytes.now)) cc) (λ x b q k. search (rules, tests)) in
+    step_passes a.threads a.bytes.now a.part.start a.part.end
+    (found (λ b. ltb b a.threads) a.bytes.now a.part.start a.part.end c.requires.0 c.requires.1 _ p) (omega arith)
