@@ -289,7 +289,7 @@ pub fn stands_at(p: Point, k: Call) -> Point
 }
 
 // The access that a thread makes, by where it stands.
-// stays: the eight parameters of `access_of`. They come from a thread, a record, a slot and what was heard, and travel together here alone.
+// stays: eight parameters, since `access_of` of specs/Step.antt in figures is defined over them.
 pub fn access(
     p: Point,
     t: ThreadId,

@@ -6,6 +6,7 @@ use super::figure4::{block_of, count_at, count_of, new_id, set_count, with_count
 use figures::{Cell, Counts, Kind, Machine, Snapshot, THREADS, Trace};
 use terms::{SnapshotId, Target};
 
+// stays: `Nothing` is a case here and in `Request`, and no `Option`, since specs/Exchanges.antt and specs/Requests.antt define over it.
 #[derive(Clone, Copy)]
 pub enum Exchange {
     Nothing,

@@ -66,6 +66,7 @@ pub fn sight_by(heard: u32, current: SnapshotId) -> Sight
 }
 
 // The snapshot that is being collected: the current one, if it was not closed at any step (0: not yet), and else 0.
+// stays: no `Option`, since `window_in` of specs/Exchanges.antt is 0 there
 pub fn window_of(current: SnapshotId, closed: u32) -> SnapshotId
     ensures { result ≡ window_in current closed }
 {

@@ -112,7 +112,7 @@ pub fn go_to(p: SizePoint) -> SizeMove
     goes(p, SizeDeed::Looks)
 }
 
-// On to the next cell; after the last, line 60.
+// On to the next cell; after the last, figure 5, line 60.
 fn collect_next(threads: u8, n: SnapshotId, j: Cell) -> SizePoint
     ensures { result ≡ collect_next threads n j }
 {

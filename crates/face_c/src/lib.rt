@@ -1,4 +1,5 @@
 // The exports of the crate `face`: each calls the function of its name there and states its clauses again.
+// stays: numbers in front, and clauses that stand in `face` too, since the C interface has them so.
 #![tactic(auto)]
 
 ghost use Rattle.std.specs.Prelude.{◌≡◌, length};

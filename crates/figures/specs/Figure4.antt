@@ -40,7 +40,7 @@ set_count b j n = set b j.thread.0 (with_count j.kind n (get_or b j.thread.0 (bo
 abbrev pub block_of : ℕ → List Counts
 block_of n = replicate most_threads (both n)
 
--- line 87: a new snapshot; line 55 and 56: record 0, which is not collecting
+-- figure 6, line 87: a new snapshot; figure 5, lines 55 and 56: record 0, which is not collecting
 abbrev pub fresh_snapshot : Bool → Snapshot
 fresh_snapshot collecting = record { cells = block_of invalid; collecting = collecting; size = invalid }
 

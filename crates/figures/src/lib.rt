@@ -14,8 +14,8 @@ ghost use Rattle.figures.specs.Start.{calculator_start, owner_of, records_of, lo
 
 use terms::{Note, OpId, SnapshotId, Target, ThreadId};
 
-// The limits as lengths, which a constant takes by `as` alone: threads, keys, and records of snapshots, one for each operation and
-// record 0.
+// The limits as lengths: threads, keys, and records of snapshots, one for each operation and record 0.
+// stays: `as`, since no `from` may be called in a constant's value.
 pub const THREADS: usize = Machine::THREADS as usize;
 
 pub const KEYS: usize = Machine::KEYS as usize;
@@ -49,7 +49,7 @@ pub struct Counts {
 // CountersSnapshot (figure 4, lines 48 to 51).
 // stays: INVALID in a cell or the size is in the lent table (C), and `behind`, `collect_set`, `fix_size` of Figure6 compare with it.
 #[repr(C)]
-#[derive(Clone, Copy)]
+#[derive(Clone, Copy, Default)]
 pub struct Snapshot {
     pub cells: [Counts; THREADS],
     pub collecting: bool,
@@ -393,7 +393,7 @@ fn owner_of(counts: [u16; THREADS], o: usize) -> u8
     for (thread, count) in counts.iter().enumerate() {
         let count = usize::from(*count);
         if left < count {
-            // stays: `as`, here and in `local_of`, since no `From` narrows
+            // stays: `as`, here and in `local_of`, since no `From` narrows; numbers zipped to the counts leave the loop no index to speak of
             return thread as u8;
         }
         left -= count;
@@ -404,6 +404,7 @@ fn owner_of(counts: [u16; THREADS], o: usize) -> u8
 fn records_of(counts: [u16; THREADS], operations: &[u8]) -> [Record; Machine::OPERATIONS]
     ensures { result ≡ sets (replicate most_operations (Rattle.figures.specs.Start.unbegun 0 0)) 0 (records_of counts 0 operations.now) }
 {
+    // stays: bytes by number, here and in `locals_of`, since nothing is known of what is written through an adapter of `iter_mut`
     let mut records = [unbegun(0, 0); Machine::OPERATIONS];
     for (o, record) in records.iter_mut().enumerate() {
         if let Some(b) = operations.get(o) {
@@ -472,6 +473,7 @@ impl Machine {
     pub const INVALID: u32 = 4294967295;
 
     // The state before the first step, of a run of so many threads and keys: one count per thread, and the operation bytes.
+    // stays: four arguments, since `start_of` is defined over them.
     pub fn start(threads: u8, keys: u8, counts: [u16; THREADS], operations: &[u8]) -> Machine
         ensures { result ≡ start_of threads keys counts operations.now }
     {

@@ -40,11 +40,7 @@ pub fn raise(block: &mut [Counts; THREADS], j: Cell, c: Target) -> u32
 pub fn no_snapshot() -> Snapshot
     ensures { result ≡ absent }
 {
-    Snapshot {
-        cells: block_of(0),
-        collecting: false,
-        size: 0,
-    }
+    Snapshot::default()
 }
 
 // Record n of a lent table.
@@ -71,7 +67,7 @@ pub fn exchange(table: &mut [Snapshot], n: SnapshotId, x: Exchange) -> u32
     }
 }
 
-// Makes the one access that is asked for, and returns what is heard. A flag or a cell is read where it lies: its record is not copied.
+// Makes the one access that is asked for, and returns what is heard.
 pub fn perform(table: &mut [Snapshot], block: &mut [Counts; THREADS], q: Request) -> u32
     ensures { (result ≡ heard q block.old table.old) × (block.new ≡ counters_by q block.old) × (table.new ≡ table_by q table.old) }
 {

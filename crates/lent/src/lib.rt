@@ -93,6 +93,7 @@ pub fn run(
 }
 
 // The same, with the answer in the form in which C is handed it.
+// stays: the C interface needs the number in front, and the clauses stated again.
 pub fn pszenorad_run_lent(
     file: &[u8],
     results: &mut [u32],

@@ -1,4 +1,5 @@
 // The export of the crate `lent`: it calls the function of its name there and states its clauses again.
+// stays: the number in front, and clauses that stand in `lent` too, since the C interface has them so.
 #![tactic(auto)]
 
 ghost use Rattle.std.specs.Prelude.{◌≡◌, length};

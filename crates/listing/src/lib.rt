@@ -120,14 +120,6 @@ fn print_operations<W: Write>(
     Ok(())
 }
 
-fn print_log<W: Write>(out: &mut W, log: &[u32], entries: usize) -> io::Result<()> {
-    let (log, _) = log.as_chunks::<PER_ENTRY>();
-    for [o, step] in log.iter().take(entries) {
-        writeln!(out, "log {o} at {step}")?;
-    }
-    Ok(())
-}
-
 // What the file holds, and what its run hands back.
 fn read_and_play(
     file: &[u8],
@@ -155,7 +147,11 @@ pub fn print_run<W: Write>(out: &mut W, file: &[u8]) -> io::Result<()> {
                 played.snapshots
             )?;
             print_operations(out, file, &layout, &results)?;
-            print_log(out, &log, played.entries)
+            let (log, _) = log.as_chunks::<PER_ENTRY>();
+            for [o, step] in log.iter().take(played.entries) {
+                writeln!(out, "log {o} at {step}")?;
+            }
+            Ok(())
         }
     }
 }

@@ -36,7 +36,7 @@ pub struct Rest {
     pub records: [Record; Machine::OPERATIONS],
 }
 
-// stays: no `From`, since the counters and the table are left out.
+// stays: `rest_of(m)`, and `whole_of`: `Rest::from(m)` is no plainer, since it would say that nothing is left out.
 pub fn rest_of(m: Machine) -> Rest
     ensures { result ≡ rest_of m }
 {
@@ -104,8 +104,9 @@ impl Rest {
         ensures value { result ≡ is_busy self.now t }
         ensures there { result ≡ true → t.0 < most_threads }
     {
-        let k = usize::from(t.0);
-        k < THREADS && self.locals[k].op < self.locals[k].end
+        self.locals
+            .get(usize::from(t.0))
+            .is_some_and(|l| l.op < l.end)
     }
 
     fn record_in(&self, o: OpId) -> Record
@@ -114,7 +115,7 @@ impl Rest {
         self.records
             .get(usize::from(o.0))
             .copied()
-            .unwrap_or(no_record())
+            .unwrap_or_default()
     }
 
     fn content_in(&self, key: u8) -> Content
@@ -178,8 +179,9 @@ impl Rest {
         }
     }
 
-    // What the turn tells of its own operation. Here as below nothing is stored beyond an array's end, by a test and an index: of what is
-    // written through a slice's `get_mut` a proof knows no element.
+    // What the turn tells of its own operation. Nothing is stored beyond an array's end.
+    // stays: a test and an index, in this and the three stores below, since of what is written through a slice's `get_mut` a proof knows
+    // no element
     fn record_turn(&mut self, o: OpId, v: Move)
         ensures { self.new ≡ record self.old { records = set self.old.records o.0 (recorded_by self.old.clock v.deed v.next (get_or self.old.records o.0 no_record)) } }
     {
@@ -246,7 +248,8 @@ impl Rest {
 }
 
 // A step of thread t: what it asks for, the one access, and what follows from the number heard.
-// stays: table, counters and rest side by side, since each has a lender of its own; a struct of them needs a clause on each one's name.
+// stays: table, counters and rest side by side, here and in `play_lent`: docs/DECISIONS.md names both as functions over what is lent, and
+// each of the three has a lender of its own.
 #[tactic(auto, using(crate::proofs::Turns::decided_steps))]
 pub fn step_lent(table: &mut [Snapshot], block: &mut [Counts; THREADS], m: &mut Rest, t: ThreadId)
     ensures { whole_of m.new block.new table.new ≡ step_of (whole_of m.old block.old table.old) t }

@@ -1,11 +1,15 @@
 -- Two answers that meet a function's own promise are equal, and so is what they leave in the lent buffers (`κs`: how long those are
--- lent): of `run`, of `hand_back` and of `lacks_room`.
+-- lent): of `run`, of `hand_back`, of `lacks_room`, and of the form of an answer in which C is handed it.
 use contract.Lifetimes.{Lfts}
 use Rattle.terms.proofs.Once.{Once, Ends, once}
 use Rattle.play.proofs.Answers.{told_once}
 use Rattle.play.proofs.run.Reads as run
 use Rattle.play.proofs.hand_back.Reads as hand-back
 use Rattle.play.proofs.lacks_room.Reads as lacks-room
+use Rattle.play.proofs.ToldFromResultPlayedRefused.from.Reads as told-form
+
+pub told_form_once : Once (told-form.Post tt)
+told_form_once a r s e d p q = once p q
 
 pub lacks_room_once : Once (lacks-room.Post tt)
 lacks_room_once a r s e d p q = once p q

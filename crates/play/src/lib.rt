@@ -32,6 +32,7 @@ pub struct Played {
 
 // The form in which C is handed what a run answers: number 0 where it was played, and what it did. Else the refusal's number and
 // place, and every other number 0.
+// stays: the C interface needs the number and the values in one struct.
 #[repr(C)]
 #[derive(Clone, Copy, Default)]
 pub struct Told {
@@ -138,13 +139,12 @@ pub fn run(file: &[u8], results: &mut [u32], log: &mut [u32]) -> Result<Played, 
     ensures meets { OnOk result (Meets file.now) }
 {
     let layout = runfile::read(file)?;
-    let operations = layout.operations;
-    if lacks_room(operations, results.len(), log.len()) {
+    if lacks_room(layout.operations, results.len(), log.len()) {
         return Err(Refusal::TooSmall.at(0));
     }
     hand_back(
         &rest_of(machine_after(file, layout)),
-        operations,
+        layout.operations,
         results,
         log,
     )

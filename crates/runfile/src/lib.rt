@@ -84,6 +84,7 @@ const ENTRY: usize = 4;
 pub const KEPT: usize = HEADER + ENTRY * (THREADS + 1) + Machine::OPERATIONS + Machine::STEPS + 1;
 
 // What an accepted file holds, and where it lies: the counts of absent threads are 0.
+// stays: positions, at which callers cut the file: a method that cuts it would need a `requires`, and no public function here has one.
 #[derive(Clone, Copy, PartialEq, Eq, Debug)]
 pub struct Layout {
     pub threads: u8,
@@ -120,8 +121,6 @@ impl From<Result<Layout, Refused>> for Reading {
             Ok(layout) => {
                 let counts = layout.counts;
                 Reading {
-                    number: 0,
-                    place: 0,
                     threads: layout.threads,
                     keys: layout.keys,
                     counts,
@@ -129,6 +128,7 @@ impl From<Result<Layout, Refused>> for Reading {
                     operations: layout.operations,
                     schedule_at: layout.schedule_at,
                     steps: layout.steps,
+                    ..Reading::default()
                 }
             }
             Err(refused) => Reading {
@@ -335,6 +335,7 @@ impl<'a> ContentsTable<'a> {
     fn counts(&self) -> [u16; THREADS]
         ensures { result ≡ counts_in self.now.file.now ++ replicate (most_threads - threads_in self.now.file.now) 0 }
     {
+        // stays: places by index, here and in `put_entries`, since nothing is known of what is written through a zip
         let mut counts = [0; THREADS];
         let threads = self.entries.len() - 1;
         for (i, bytes) in self.entries[..threads].iter().enumerate() {

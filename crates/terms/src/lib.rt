@@ -1,4 +1,5 @@
 // The small numbers of document 01, each of its own type, so that passing one for another is caught by the checker.
+// stays: `.0` where an array is indexed or a number compared: a `From` to it is no plainer, and would take any of them for an index.
 #![tactic(auto)]
 
 // A thread, 0 to 7.
