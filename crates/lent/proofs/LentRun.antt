@@ -17,6 +17,8 @@ use Rattle.play.specs.Meets.{Meets}
 use Rattle.machine.specs.declared.Rest.{Rest}
 use Rattle.machine.specs.Parts.{whole_of, rest_of}
 use Rattle.runfile.specs.Read.{read_of}
+use Rattle.runfile.specs.Table.{Decides, Unplayable, running_order}
+use Rattle.play.proofs.Table.{tells_decides}
 use Rattle.play.specs.Run.{operations_of, schedule_of, machine_of, number_of, told_of, too_small}
 use Rattle.play.proofs.Accepted.{within, demand_held}
 use Rattle.play.proofs.Decided.{AsFile, hands_file}
@@ -54,6 +56,12 @@ module _ (f : List ℕ) (results log table : ℕ) where
       let a = accepted_by e in
       let n = number_none (read_of f).number (lent_small f results log table) e in
       rw (eq-eqb (read_of f).number 0 a.read, n.1, a.room)
+
+-- what a run over a lent table tells is the first row, in the order of `running_order`, that holds
+pub lent_decides : (f : List ℕ) (results log table : ℕ)
+    → Decides (Unplayable f (lent_small f results log table)) running_order
+    (lent_told f results log table).number (lent_told f results log table).place
+lent_decides f results log table = tells_decides f (lent_small f results log table) (lent_told f results log table) refl
 
 -- ---- What is left behind, and what is handed back.
 

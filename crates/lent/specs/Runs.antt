@@ -19,7 +19,7 @@ use Rattle.lent.specs.declared.Opened.{Opened}
 abbrev pub lent_small : List ℕ → ℕ → ℕ → ℕ → Bool
 lent_small f results log table = too_small f results log || ltb table (sizes_of (operations_of f) + 1)
 
--- the lowest number that applies, 0 if none does
+-- the number of the first row that holds, 0 if none does
 abbrev pub lent_number : List ℕ → ℕ → ℕ → ℕ → ℕ
 lent_number f results log table =
     cond (eqb (read_of f).number 0) (cond (lent_small f results log table) 11 0) (read_of f).number
@@ -33,7 +33,7 @@ lent_told f results log table =
 abbrev pub records_of : List ℕ → List Snapshot
 records_of f = announced_in (machine_of f)
 
--- ---- Before the first step: a file that nothing refuses is opened, and of another the lowest number that applies is told.
+-- ---- Before the first step: a file that nothing refuses is opened, and of another the first row that holds is told.
 
 pub record Opens (f : List ℕ) (results log table : ℕ) (o : Opened) : Type 0 where
   pub accepted : lent_number f results log table ≡ 0

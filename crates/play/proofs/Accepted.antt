@@ -1,5 +1,5 @@
 -- A file that reading accepts asks for a run within the limits.
-use Prim.Native.Nat.{ℕ, zero, suc, ◌+◌, ◌-◌, ◌≤◌, ◌<◌}
+use Prim.Native.Nat.{ℕ, zero, suc, ◌+◌, ◌-◌, ◌*◌, ◌≤◌, ◌<◌}
 use mathlib.Core.Path.{◌≡◌, refl, sym, ap, ◌∙◌, subst}
 use mathlib.Core.List.{List, [], ◌∷◌}
 use native.Mathlib.Omega.{arith}
@@ -26,7 +26,11 @@ use Rattle.history.specs.Demand.{Demand}
 use Rattle.figures.specs.declared.Machine.{Machine}
 use Rattle.figures.specs.Ranges.{Limited, Unwrapped, Sums}
 use Rattle.figures.specs.Rules.{Agrees}
-use Rattle.figures.specs.Raisers.{Raisers, Reports}
+use Rattle.figures.specs.Raisers.{Raisers, Reports, RaiserIs}
+use Rattle.figures.specs.declared.Record.{Record}
+use Rattle.figures.specs.Step.{no_record}
+use Rattle.figures.proofs.Sound.{sound_run}
+use Rattle.play.proofs.Results.{fifth_at}
 use Rattle.figures.specs.Places.{course_of, order_of, ordered_of, log_of}
 use Rattle.figures.proofs.Counted.{counted_run, size_steps_run}
 use Rattle.figures.proofs.Limited.{limited_run, unwrapped, sums_run}
@@ -34,7 +38,7 @@ use Rattle.figures.proofs.Rules.{agrees_run}
 use Rattle.figures.proofs.Raisers.{raisers_run}
 use Rattle.figures.proofs.MetadataUpdates.{reports_run}
 use Rattle.figures.proofs.Demand.{demand_run}
-use Rattle.play.specs.Run.{operations_of, schedule_of, count_of as operation_count, machine_of}
+use Rattle.play.specs.Run.{operations_of, schedule_of, count_of as operation_count, machine_of, results_of, per_operation}
 use Rattle.play.specs.Meets.{Meets}
 
 -- a thread's operations begin after the sum of the counts before it
@@ -150,3 +154,16 @@ module _ (f : List ℕ) (ok : (read_of f).number ≡ 0) where
   -- no sum is below zero, and no size is above the number of keys
   pub sums_held : Sums (read_of f).keys (machine_of f)
   sums_held = held (λ n m. Sums (read_of f).keys m) (sums_run _ _ _ _ _ (within f ok))
+
+  -- the fifth number that is handed back of an operation, over the schedule
+  pub fifth_held : (o : ℕ) → o < operation_count f
+      → RaiserIs (start_of_file f) (schedule_of f) (record { 0 = o }) (get_or (results_of f) (per_operation * o + 4) 0)
+  fifth_held o h =
+      let n = operation_count f in
+      let l : length (machine_of f).records ≡ 64 = held (λ k m. length m.records ≡ 64) (sound_run _ _ _ _ _ (within f ok)).shape.records in
+      let few : n ≤ 64 = (accepts f ok).operations_few in
+      let t : length (take n (machine_of f).records) ≡ n = simp length-take (omega (arith, l, few)) in
+      let e : get_or (take n (machine_of f).records) o no_record ≡ get_or (machine_of f).records o no_record = get_or-take n _ o no_record h in
+      subst (RaiserIs (start_of_file f) (schedule_of f) (record { 0 = o }))
+      (sym (fifth_at (take n (machine_of f).records) o (omega (arith, t)) ∙ ap (λ (r : Record). r.outcome.raiser) e))
+      (raisers_held.raiser (record { 0 = o }) h)

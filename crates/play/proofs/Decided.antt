@@ -23,7 +23,7 @@ use Rattle.places.proofs.Held.{held_all}
 use Rattle.places.proofs.History.{log_told}
 use Rattle.runfile.specs.Read.{read_of}
 use Rattle.runfile.proofs.Accepts.{accepts}
-use Rattle.play.specs.Run.{machine_of, count_of, per_operation, results_of, entries_of, fours_of, number_of, refused, told_of, when, lacks, lack_number, handed_told}
+use Rattle.play.specs.Run.{machine_of, count_of, per_operation, results_of, entries_of, fives_of, number_of, refused, told_of, when, lacks, lack_number, handed_told}
 
 -- ---- Handing back.
 
@@ -94,7 +94,7 @@ module _ (f : List ℕ) (results log : ℕ) where
     pub record AsFile (m : Rest) (n : ℕ) : Type 0 where
       pub told : handed_told (whole_of m [] []) n results log ≡ told_of f results log
       pub in_results : (l : List ℕ)
-          → sets l 0 (when (lack_number n results log) (fours_of (take (held_of n) m.records)))
+          → sets l 0 (when (lack_number n results log) (fives_of (take (held_of n) m.records)))
           ≡ sets l 0 (when (number_of f results log) (results_of f))
       pub in_log : (l : List ℕ)
           → sets l 0 (when (lack_number n results log) (numbers_of (log_of (whole_of m [] []) (held_of n))))
@@ -115,9 +115,9 @@ module _ (f : List ℕ) (results log : ℕ) where
               ∙ ap (λ (k : ℕ). handed_told (machine_of f) k results log) all
               ∙ told_file;
           in_results = λ l.
-              ap (λ (x : Machine). sets l 0 (when (lack_number n results log) (fours_of (take (held_of n) x.records)))) is
-              ∙ ap (λ (k : ℕ). sets l 0 (when (lack_number k results log) (fours_of (take (held_of k) (machine_of f).records)))) all
-              ∙ ap (sets l 0) (written_file (λ k. fours_of (take k (machine_of f).records)));
+              ap (λ (x : Machine). sets l 0 (when (lack_number n results log) (fives_of (take (held_of n) x.records)))) is
+              ∙ ap (λ (k : ℕ). sets l 0 (when (lack_number k results log) (fives_of (take (held_of k) (machine_of f).records)))) all
+              ∙ ap (sets l 0) (written_file (λ k. fives_of (take k (machine_of f).records)));
           in_log = λ l.
               ap (λ (es : List Entry). sets l 0 (when (lack_number n results log) (numbers_of es))) (log_any m b t (held_of n))
               ∙ ap (λ (x : Machine). sets l 0 (when (lack_number n results log) (numbers_of (log_of x (held_of n))))) is

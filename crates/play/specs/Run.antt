@@ -25,17 +25,17 @@ machine_of f =
 abbrev pub count_of : List ℕ → ℕ
 count_of f = (read_of f).operations
 
--- numbers per operation: answer, first step, last step, own steps
+-- numbers per operation: answer, first step, last step, own steps, and who raised it
 abbrev pub per_operation : ℕ
 per_operation = 5
 
-unfoldable pub fours_of : List Record → List ℕ
-fours_of [] = []
-fours_of (r ∷ rs) =
-    r.outcome.answer ∷ r.outcome.first ∷ r.outcome.last ∷ r.outcome.own ∷ r.outcome.raiser ∷ fours_of rs
+unfoldable pub fives_of : List Record → List ℕ
+fives_of [] = []
+fives_of (r ∷ rs) =
+    r.outcome.answer ∷ r.outcome.first ∷ r.outcome.last ∷ r.outcome.own ∷ r.outcome.raiser ∷ fives_of rs
 
 abbrev pub results_of : List ℕ → List ℕ
-results_of f = fours_of (take (count_of f) (machine_of f).records)
+results_of f = fives_of (take (count_of f) (machine_of f).records)
 
 -- two numbers per log entry: operation, step
 abbrev pub entries_of : List ℕ → List ℕ
@@ -48,7 +48,7 @@ too_small_for n results log = ltb results (per_operation * n) || ltb log (per_en
 abbrev pub too_small : List ℕ → ℕ → ℕ → Bool
 too_small f results log = too_small_for (count_of f) results log
 
--- the lowest number that applies, 0 if none does
+-- the number of the first row that holds, 0 if none does
 abbrev pub number_of : List ℕ → ℕ → ℕ → ℕ
 number_of f results log = cond (eqb (read_of f).number 0) (cond (too_small f results log) 11 0) (read_of f).number
 

@@ -9,7 +9,7 @@ ghost use Rattle.runfile.specs.Read.{read_of};
 ghost use Rattle.runfile.specs.Answers.{reading_of};
 ghost use Rattle.machine.specs.Parts.{whole_of};
 ghost use Rattle.places.specs.Written.{numbers_of, held_of};
-ghost use Rattle.play.specs.Run.{machine_of, per_operation, fours_of, results_of, entries_of};
+ghost use Rattle.play.specs.Run.{machine_of, per_operation, fives_of, results_of, entries_of};
 ghost use Rattle.play.specs.Run.{lacks, lack_number, handed_told, number_of, told_of, when};
 ghost use Rattle.play.specs.Answers.{told_by};
 ghost use Rattle.play.specs.Meets.{Meets};
@@ -65,7 +65,7 @@ impl From<Result<Played, Refused>> for Told {
 
 fn write_results(records: &[Record], results: &mut [u32])
     requires { per_operation * length records.now ≤ length results.old }
-    ensures { results.new ≡ sets results.old 0 (fours_of records.now) }
+    ensures { results.new ≡ sets results.old 0 (fives_of records.now) }
 {
     // stays: a place by index, since what is written through `chunks_exact_mut` is not known once it is over
     for (i, r) in records.iter().enumerate() {
@@ -95,7 +95,7 @@ pub fn hand_back(
 ) -> Result<Played, Refused>
     ensures value { told_by result ≡ handed_told (whole_of m.now [] []) operations (length results.old) (length log.old) }
     ensures results_after { results.new ≡ sets results.old 0
-        (when (lack_number operations (length results.old) (length log.old)) (fours_of (take (held_of operations) m.now.records))) }
+        (when (lack_number operations (length results.old) (length log.old)) (fives_of (take (held_of operations) m.now.records))) }
     ensures log_after { log.new ≡ sets log.old 0
         (when (lack_number operations (length results.old) (length log.old)) (numbers_of (log_of (whole_of m.now [] []) (held_of operations)))) }
 {

@@ -25,7 +25,7 @@ use Rattle.runfile.proofs.Laws.{true_false, first_low, first_before, first_at}
 use Rattle.runfile.proofs.Operations.{allowed_is, fault_wrong, wrong_fault, byte_on, byte_applies}
 use Rattle.runfile.proofs.Rows.{listed, row_named, AllTell, done, ◌also◌, outcome, passed, stopped, number_passes, decide_append, numbered, decides}
 
--- ---- the orders in the documents' numbers: reading gives the lowest number that applies, 13 and 14 at 9's place; the writer tests
+-- ---- the orders in the documents' numbers: reading tries them as they rise, but 13 and 14 at 9's place; the writer tests
 -- in an order of its own
 
 pub reading_numbers : map number_of reading_order ≡ 1 ∷ 2 ∷ 3 ∷ 4 ∷ 5 ∷ 6 ∷ 7 ∷ 8 ∷ 9 ∷ 13 ∷ 14 ∷ 10 ∷ []
