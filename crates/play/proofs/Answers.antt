@@ -1,5 +1,5 @@
--- What the form in numbers says of an answer: two answers of one form are equal.
-use Rattle.std.proofs.Common.{◌≡◌, ℕ, ap, ◌∙◌, arith, Result, Ok, Err}
+-- What the form in numbers says of an answer: two answers of one form are equal. And what an answer may be told of.
+use Rattle.std.proofs.Common.{◌≡◌, ℕ, ap, ◌∙◌, arith, Result, Ok, Err, OnOk}
 use Rattle.runfile.specs.declared.Refusal.{Refusal}
 use Rattle.runfile.specs.declared.Refused.{Refused}
 use Rattle.play.specs.declared.Played.{Played}
@@ -16,3 +16,8 @@ told_once (Err a) (Err b) e =
   where
     refusal : Refusal → ℕ → Result Played Refused
     refusal w p = Err (record { why = w; place = p })
+
+-- what holds anyway holds where there is a value
+pub on_ok : {T E P : Type 0} (r : Result T E) → P → OnOk r P
+on_ok (Ok x) p = p
+on_ok (Err e) p = tt

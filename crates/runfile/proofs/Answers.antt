@@ -13,7 +13,7 @@ use Rattle.runfile.specs.declared.Writing.{Writing}
 use Rattle.runfile.specs.Refusals.{number_of}
 use Rattle.runfile.specs.Rows.{Passes, Stops}
 use Rattle.runfile.specs.Read.{rows, refused, accepted, read_of}
-use Rattle.runfile.specs.Answers.{layout_in, reading_of, writing_of}
+use Rattle.runfile.specs.Answers.{layout_of, reading_of, writing_of}
 use Rattle.runfile.specs.Accepts.{Accepts}
 use Rattle.runfile.proofs.Rows.{numbered, one_row, passed, stopped}
 use Rattle.runfile.proofs.Accepts.{reading_accepts}
@@ -26,20 +26,7 @@ same_refused a b e e' =
     refusal w p = record { why = w; place = p }
 
 pub reading_once : (r s : Result Layout Refused) → reading_of r ≡ reading_of s → r ≡ s
-reading_once (Ok l) (Ok m) e =
-    ap
-    (λ (x : Reading).
-    Ok
-    (record {
-      threads = x.threads;
-      keys = x.keys;
-      counts = x.counts;
-      operations_at = x.operations_at;
-      operations = x.operations;
-      schedule_at = x.schedule_at;
-      steps = x.steps;
-    }))
-    e
+reading_once (Ok l) (Ok m) e = ap (λ (x : Reading). Ok (layout_of x)) e
 reading_once (Ok l) (Err b) e = absurd (omega (arith, numbered b.why, ap (λ (x : Reading). x.number) e))
 reading_once (Err a) (Ok m) e = absurd (omega (arith, numbered a.why, ap (λ (x : Reading). x.number) e))
 reading_once (Err a) (Err b) e =
@@ -54,7 +41,7 @@ writing_once (Err a) (Err b) e =
 
 -- what tests of all rows make of a file
 module _ (f : List ℕ) where
-  pub passed_reading : Passes (rows f) → reading_of (Ok (layout_in f)) ≡ read_of f
+  pub passed_reading : Passes (rows f) → reading_of (Ok (layout_of (accepted f))) ≡ read_of f
   unfolding read_of
   passed_reading ps = sym (passed refused (accepted f) (rows f) ps)
 

@@ -1,6 +1,5 @@
 -- The form of an answer in numbers: 0 and what the file holds, or the number and place of the refusal.
-use Rattle.std.specs.Prelude.{ℕ, ◌+◌, ◌-◌, List, ◌++◌, replicate, ltb, Result, Ok, Err}
-use Rattle.figures.specs.Limits.{most_threads}
+use Rattle.std.specs.Prelude.{ℕ, ◌+◌, List, ltb, Result, Ok, Err}
 use Rattle.runfile.specs.declared.Refused.{Refused}
 use Rattle.runfile.specs.declared.Layout.{Layout}
 use Rattle.runfile.specs.declared.Reading.{Reading}
@@ -9,8 +8,8 @@ use Rattle.runfile.specs.declared.Writing.{Writing}
 use Rattle.runfile.specs.declared.Refusal.TheVariants.{Offset}
 use Rattle.runfile.specs.Refusals.{number_of}
 use Rattle.runfile.specs.Rows.{Row, row, Passes, Stops}
-use Rattle.runfile.specs.Layout.{entry_at, body_at, file_of}
-use Rattle.runfile.specs.Read.{threads_in, keys_in, counts_in, operations_in, schedule_in, steps_in, wrong_entry, refused}
+use Rattle.runfile.specs.Layout.{entry_at, file_of}
+use Rattle.runfile.specs.Read.{threads_in, wrong_entry, refused}
 use Rattle.runfile.specs.Write.{unwritten, writer_rows}
 
 -- rows tested: none applies, or the refusal is that of the first that does
@@ -22,17 +21,17 @@ Tested rows (Err e) = Stops rows e.why e.place
 abbrev pub offset_row : List ℕ → Row
 offset_row f = row Offset (ltb (wrong_entry f) (threads_in f + 1)) (entry_at (wrong_entry f))
 
--- what an accepted file holds: the counts of absent threads are 0
-abbrev pub layout_in : List ℕ → Layout
-layout_in f =
+-- what a reading tells beside its number and place
+abbrev pub layout_of : Reading → Layout
+layout_of r =
     record {
-      threads = threads_in f;
-      keys = keys_in f;
-      counts = counts_in f ++ replicate (most_threads - threads_in f) 0;
-      operations_at = body_at (threads_in f);
-      operations = operations_in f;
-      schedule_at = schedule_in f;
-      steps = steps_in f;
+      threads = r.threads;
+      keys = r.keys;
+      counts = r.counts;
+      operations_at = r.operations_at;
+      operations = r.operations;
+      schedule_at = r.schedule_at;
+      steps = r.steps;
     }
 
 -- the file of what the writer is given, and its rows where there is so much room

@@ -12,9 +12,9 @@ ghost use Rattle.runfile.specs.Refusals.{number_of, fault_row};
 ghost use Rattle.runfile.specs.Rows.{outside, Passes, sum_to};
 ghost use Rattle.runfile.specs.Layout.{word_at, entry_at, body_at, count_of, entries, file_of};
 ghost use Rattle.runfile.specs.Shared.{threads_row, keys_row, operations_row, steps_row, operation_rows, step_row};
-ghost use Rattle.runfile.specs.Read.{threads_in, counts_in, head_rows, table_rows, read_of};
+ghost use Rattle.runfile.specs.Read.{threads_in, counts_in, head_rows, table_rows, accepted, read_of};
 ghost use Rattle.runfile.specs.Write.{disagree, write_of, written_of};
-ghost use Rattle.runfile.specs.Answers.{Tested, offset_row, layout_in, file_made, rows_against, reading_of, writing_of};
+ghost use Rattle.runfile.specs.Answers.{Tested, offset_row, layout_of, file_made, rows_against, reading_of, writing_of};
 
 use figures::{Call, Machine, THREADS};
 use std::error::Error;
@@ -347,7 +347,7 @@ impl<'a> ContentsTable<'a> {
     // Tests the table's rows: what the file holds, where none applies.
     fn layout(&self) -> Result<Layout, Refused>
         ensures tested { Tested (table_rows self.now.file.now) result }
-        ensures value { IfOk result (λ layout. layout ≡ layout_in self.now.file.now) }
+        ensures value { IfOk result (λ layout. layout ≡ layout_of (accepted self.now.file.now)) }
     {
         self.check_offsets()?;
         let threads = self.file[0];

@@ -1,14 +1,11 @@
-use Rattle.std.proofs.Common.{OnOk, Ok, Err, Result, sym, ◌∙◌, ap, length}
+use Rattle.std.proofs.Common.{sym, ◌∙◌, ap, length}
 use Rattle.figures.specs.declared.Machine.{Machine}
 use Rattle.play.specs.Run.{results_of, entries_of}
+use Rattle.play.proofs.Answers.{on_ok}
 use Rattle.play.proofs.Decided.{is_written}
 use Rattle.lent.specs.Runs.{records_of}
 use Rattle.lent.proofs.LentRun.{same_told, ran_as, handed, is_number, met}
 use Rattle.lent.proofs.run.Goals as goal
-
-on_ok : {T E P : Type 0} (r : Result T E) → P → OnOk r P
-on_ok (Ok x) p = p
-on_ok (Err e) p = tt
 
 pub returns : goal.returns
 returns c =

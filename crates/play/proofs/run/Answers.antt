@@ -1,17 +1,14 @@
-use Rattle.std.proofs.Common.{◌≡◌, Result, Ok, Err, OnOk, ap, sym, ◌∙◌, length, rules}
+use Rattle.std.proofs.Common.{◌≡◌, Ok, ap, sym, ◌∙◌, length, rules}
 use Rattle.runfile.specs.Read.{read_of}
 use Rattle.runfile.specs.Answers.{reading_of}
 use Rattle.runfile.proofs.Answers.{accepted_number, accepted_operations}
 use Rattle.machine.specs.declared.Rest.{Rest}
 use Rattle.machine.specs.Parts.{whole_of}
 use Rattle.play.specs.Run.{machine_of}
+use Rattle.play.proofs.Answers.{on_ok}
 use Rattle.play.proofs.Accepted.{demand_held}
 use Rattle.play.proofs.Decided.{hands_file}
 use Rattle.play.proofs.run.Goals as goal
-
-on_ok : {T E P : Type 0} (r : Result T E) → P → OnOk r P
-on_ok (Ok x) p = p
-on_ok (Err e) p = tt
 
 pub returns : goal.returns
 returns c =

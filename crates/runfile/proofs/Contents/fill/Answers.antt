@@ -1,4 +1,4 @@
-use Rattle.std.proofs.Common.{ℕ, ◌≡◌, ◌+◌, ◌≤◌, [], ◌∷◌, length, ap, ◌∙◌, arith}
+use Rattle.std.proofs.Common.{ℕ, ◌≡◌, ◌+◌, ◌≤◌, List, [], ◌∷◌, length, ap, ◌∙◌, arith}
 use Rattle.std.proofs.Math.ListN.{set, length-set}
 use Rattle.figures.specs.Limits.{most_threads, most_operations, most_steps}
 use Rattle.runfile.specs.declared.Contents.{Contents}
@@ -29,11 +29,15 @@ bounds-out-1 c = let fits = fitting c.args.self.now (length c.args.out.now) c.re
 pub put_entries-requires : goal.put_entries-requires
 put_entries-requires c = let fits = fitting c.args.self.now (length c.args.out.now) c.requires in simp length-set (omega arith)
 
+-- the head is written where there is room
+headed : (out : List ℕ) (threads keys : ℕ) → length (set (set out 0 threads) 1 keys) ≡ length out
+headed out threads keys = length-set (set out 0 threads) 1 keys ∙ length-set out 0 threads
+
 pub put-requires : goal.put-requires
 put-requires c =
     let s = c.args.self.now in
     let fits = fitting s (length c.args.out.now) c.requires in
-    let z = length-set (set c.args.out.now 0 s.threads) 1 s.keys ∙ length-set c.args.out.now 0 s.threads in
+    let z = headed c.args.out.now s.threads s.keys in
     let long = ap length c.to_bytes.ensures ∙ length_entries _ (_ ∷ []) in
     omega arith
 
@@ -41,14 +45,14 @@ pub put-requires-2 : goal.put-requires-2
 put-requires-2 c =
     let s = c.args.self.now in
     let fits = fitting s (length c.args.out.now) c.requires in
-    let z = length-set (set c.args.out.now 0 s.threads) 1 s.keys ∙ length-set c.args.out.now 0 s.threads in
+    let z = headed c.args.out.now s.threads s.keys in
     omega arith
 
 pub put-requires-3 : goal.put-requires-3
 put-requires-3 c =
     let s = c.args.self.now in
     let fits = fitting s (length c.args.out.now) c.requires in
-    let z = length-set (set c.args.out.now 0 s.threads) 1 s.keys ∙ length-set c.args.out.now 0 s.threads in
+    let z = headed c.args.out.now s.threads s.keys in
     omega arith
 
 pub returns : goal.returns
