@@ -5,7 +5,7 @@ use std::io;
 
 fn main(rt: HostRuntime) -> io::Result<()> {
     let mut input = rt.reader();
-    let kept = listing::read_kept(rt.alloc(), &mut input)?;
+    let kept = listing::read_kept(&mut input)?;
     // The rest is read too, so that whoever writes the input is not stopped by a closed pipe.
     if kept.len() == runfile::KEPT {
         io::copy(&mut input, &mut io::sink())?;
