@@ -1,6 +1,9 @@
 // What the writer answers to a few lists, in the order of its tests, and the whole output afterwards.
 #![tactic(auto)]
 
+ghost use Rattle.std.specs.Prelude.{◌≡◌, ◌+◌, length};
+ghost use Rattle.figures.specs.Limits.{most_steps};
+
 use figures::Machine;
 use runfile::Contents;
 use std::io;
@@ -41,11 +44,18 @@ fn idle<'a>() -> Contents<'a> {
     }
 }
 
+// A schedule that is one step too long.
+fn long_schedule() -> [u8; Machine::STEPS + 1]
+    ensures { most_steps + 1 ≡ length result }
+{
+    [0; Machine::STEPS + 1]
+}
+
 // Counts that disagree with the threads or the operations, before anything else is wrong; then too many operations and too many
 // steps, and then too many steps alone.
 fn try_lengths(rt: &impl Print, out: &mut [u8]) -> io::Result<()> {
     let calls = [0; Machine::OPERATIONS + 1];
-    let steps = [0; Machine::STEPS + 1];
+    let steps = long_schedule();
     let lists = [
         Contents {
             threads: 2,
