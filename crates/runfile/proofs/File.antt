@@ -24,6 +24,11 @@ sets_append l i (x ∷ xs) ys =
 pub sets_two : (l : List ℕ) (i : ℕ) (xs ys : List ℕ) {j : ℕ} → j ≡ i + length xs → sets (sets l i xs) j ys ≡ sets l i (xs ++ ys)
 sets_two l i xs ys e = rw e (sym (sets_append l i xs ys))
 
+-- one byte stored, and the rest of them still to be
+pub put_on : (bytes out : List ℕ) (from : ℕ) {i : ℕ} → i < length bytes
+    → sets (set out (from + i) (get_or bytes i 0)) (from + (i + 1)) (drop (i + 1) bytes) ≡ sets out (from + i) (drop i bytes)
+put_on bytes out from {i} h = let e : from + (i + 1) ≡ suc (from + i) = omega arith in rw (drop_on bytes h, e)
+
 -- ---- the contents table
 
 pub length_entries : (at : ℕ) (cs : List ℕ) → length (entries at cs) ≡ 4 * length cs

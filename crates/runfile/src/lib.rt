@@ -394,11 +394,14 @@ fn sum_counts(counts: &[u16]) -> usize
 }
 
 // These bytes from a place on.
+// stays: byte by byte, since `copy_from_slice` calls C's `memmove`, which the archive for C asks nobody for
 fn put(out: &mut [u8], at: usize, bytes: &[u8])
     requires { at + length bytes.now ≤ length out.old }
     ensures { out.new ≡ sets out.old at bytes.now }
 {
-    out[at..at + bytes.len()].copy_from_slice(bytes);
+    for (i, &byte) in bytes.iter().enumerate() {
+        out[at + i] = byte;
+    }
 }
 
 // An entry for each count, the first body at `body`.

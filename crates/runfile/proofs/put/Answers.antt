@@ -1,9 +1,13 @@
-use Rattle.std.proofs.Common.{◌+◌, length, arith, append_assoc}
-use Rattle.std.proofs.Math.Seq.{sets-eq}
-use borrow.Rule.Slice.PartMut.{Post-is}
+use Rattle.std.proofs.Common.{refl, add-zero, arith, ◌∙◌}
+use Rattle.std.proofs.Math.ListN.{drop_of_length-le}
+use Rattle.runfile.proofs.File.{put_on}
 use Rattle.runfile.proofs.put.Goals as goal
 
+pub loop-i-init : goal.loop-i-init
+loop-i-init c = rw add-zero
+
+pub loop-i-preserved : goal.loop-i-preserved
+loop-i-preserved c = put_on c.args.bytes.now c.loop-i.out c.args.at (omega arith) ∙ c.loop-i.invariant
+
 pub returns : goal.returns
-returns c =
-    let a = c.args in
-    rw (c.copy_from_slice.ensures.after, sets-eq a.bytes.now a.out.now a.at (omega arith), Post-is a.at (a.at + length a.bytes.now) a.out.now (omega arith), append_assoc)
+returns c = rw (drop_of_length-le _ c.loop-i-test.false) at c.loop-i.invariant
