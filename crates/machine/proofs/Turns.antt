@@ -380,15 +380,34 @@ module _ (m : Rest) (counters : List Counts) (table : List Snapshot) (t : Thread
   taken_steps w e = subst
       (λ (v : ℕ). whole_of (taken_of m t v) (counters_by (asks_of m t) counters) (table_by (asks_of m t) table) ≡ accessed whole t) (sym e) taken
 
+  -- what is asked, and the rest afterwards, where it is known whether the thread has an operation left
+  abbrev asked_if : Bool → Request
+  asked_if b = cond b (asks_of m t) Nothing
+
+  abbrev decided_if : Bool → ℕ → Rest
+  decided_if b w = cond b (taken_of m t w) (idled_of m)
+
+  abbrev after_if : Bool → ℕ → Machine
+  after_if b w = whole_of (decided_if b w) (counters_by (asked_if b) counters) (table_by (asked_if b) table)
+
   -- the rest after a step, with the counters and the table after its request, is the machine after the step
   pub decided_steps : (w : ℕ) → w ≡ heard (request_of m t) counters table →
       whole_of (decided_of m t w) (counters_by (request_of m t) counters) (table_by (request_of m t) table) ≡ step_of whole t
   unfolding step_of
   decided_steps w = go (is_busy m t)
     where
-      go : (b : Bool) → w ≡ heard (cond b (asks_of m t) Nothing) counters table →
-          whole_of (cond b (taken_of m t w) (idled_of m)) (counters_by (cond b (asks_of m t) Nothing) counters)
-          (table_by (cond b (asks_of m t) Nothing) table)
-          ≡ cond b (accessed whole t) (idled whole)
+      go : (b : Bool) → w ≡ heard (asked_if b) counters table → after_if b w ≡ cond b (accessed whole t) (idled whole)
       go true e = taken_steps w e
       go false e = refl
+
+  -- so for a thread with an operation left, and for one with none
+  known_steps : (b : Bool) → is_busy m t ≡ b → (w : ℕ) → w ≡ heard (asked_if b) counters table → after_if b w ≡ step_of whole t
+  known_steps b e w h = subst (λ (x : Bool). after_if x w ≡ step_of whole t) e
+      (decided_steps w (h ∙ ap (λ (x : Bool). heard (asked_if x) counters table) (sym e)))
+
+  pub busy_steps : is_busy m t ≡ true → (w : ℕ) → w ≡ heard (asks_of m t) counters table →
+      whole_of (taken_of m t w) (counters_by (asks_of m t) counters) (table_by (asks_of m t) table) ≡ step_of whole t
+  busy_steps = known_steps true
+
+  pub idle_steps : is_busy m t ≡ false → whole_of (idled_of m) counters table ≡ step_of whole t
+  idle_steps e = known_steps false e 0 refl

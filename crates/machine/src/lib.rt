@@ -9,7 +9,7 @@ ghost use Rattle.std.specs.Prelude.{◌≡◌, true, ◌<◌, get_or, set};
 ghost use Rattle.figures.specs.Limits.{most_threads};
 ghost use Rattle.figures.specs.Step.{no_record, no_slot, step_of, run_of};
 ghost use Rattle.calculator.specs.Requests.{traces_by};
-ghost use Rattle.machine.specs.Parts.{recorded_by, raised_by, whole_of, rest_of, is_busy, window_now, asks_of, move_in, request_of, decided_of};
+ghost use Rattle.machine.specs.Parts.{recorded_by, raised_by, held_by, local_in, whole_of, rest_of, is_busy, window_now, asks_of, move_in, request_of, taken_by, idled_of, decided_of};
 
 use accesses::{access, request, stands_at};
 use calculator::figure4::{sight_by, window_of};
@@ -212,51 +212,91 @@ impl Rest {
         }
     }
 
-    // What the log needs of the record that is asked for, by a thread that has read these values.
-    fn trace_request(&mut self, q: Request, heard: u32, seen: [Counts; THREADS])
-        ensures { self.new ≡ record self.old { traces = traces_by q heard self.old.clock seen self.old.traces } }
+    // The slot of this key after a deed. Most deeds leave it as it is, and store nothing.
+    #[tactic(auto, using(crate::proofs::Kept::kept_slot))]
+    fn store_held(&mut self, key: u8, d: Deed)
+        ensures { self.new ≡ record self.old { slots = set self.old.slots key (record { content = held_by d (get_or self.old.slots key no_slot).content }) } }
     {
-        let k = usize::from(q.record_of().0);
-        if k < self.traces.len() {
-            q.trace_by(heard, self.clock, &seen, &mut self.traces[k]);
+        match d {
+            Deed::Links(_) | Deed::Marks(_, _) | Deed::Unlinks => {
+                let held = self.content_in(key);
+                self.store_content(key, held_after(held, d));
+            }
+            Deed::Rests | Deed::Finds(_) | Deed::Updates(_, _) | Deed::Sizes(_) => {}
         }
+    }
+
+    // What the log needs of the record that is asked for, by a thread that is there, with the values that it has read. Only an exchange
+    // tells the log anything, so for no other request are these values looked at.
+    #[tactic(auto, using(crate::proofs::Kept::kept_trace))]
+    fn trace_request(&mut self, q: Request, heard: u32, t: ThreadId)
+        requires { t.0 < most_threads }
+        ensures { self.new ≡ record self.old { traces = traces_by q heard self.old.clock (local_in self.old t).seen self.old.traces } }
+    {
+        if let Request::Exchanges(_, _) = q {
+            let k = usize::from(q.record_of().0);
+            if k < self.traces.len() {
+                let seen = &self.locals[usize::from(t.0)].seen;
+                q.trace_by(heard, self.clock, seen, &mut self.traces[k]);
+            }
+        }
+    }
+
+    // The second half for a thread with an operation left, whose access asked this and heard this number.
+    fn taken(&mut self, t: ThreadId, q: Request, heard: u32)
+        requires { t.0 < most_threads }
+        ensures { self.new ≡ taken_by (move_in self.old t heard) q heard t self.old }
+    {
+        self.clock = self.clock.wrapping_add(1);
+        let v = self.move_in(t, heard);
+        let w = self.window();
+        let k = usize::from(t.0);
+        let o = self.locals[k].op;
+        let key = self.record_in(o).asked.key;
+        self.record_turn(o, v);
+        self.record_raising(v.deed, w, t);
+        self.store_held(key, v.deed);
+        self.trace_request(q, heard, t);
+        self.current = q.current_by(self.current);
+        stood(&mut self.locals[k], v);
+    }
+
+    // For a thread with none left.
+    fn idled(&mut self)
+        ensures { self.new ≡ idled_of self.old }
+    {
+        self.clock = self.clock.wrapping_add(1);
+        self.idle = self.idle.wrapping_add(1);
     }
 
     // The second half of a step of thread t, which heard this number of what it asked for.
     pub fn decided(&mut self, t: ThreadId, heard: u32)
         ensures { self.new ≡ decided_of self.old t heard }
     {
-        self.clock = self.clock.wrapping_add(1);
-        if !self.is_busy(t) {
-            self.idle = self.idle.wrapping_add(1);
-            return;
+        if self.is_busy(t) {
+            let q = self.request_in(t);
+            self.taken(t, q, heard);
+        } else {
+            self.idled();
         }
-        let q = self.request_in(t);
-        let v = self.move_in(t, heard);
-        let w = self.window();
-        let k = usize::from(t.0);
-        let o = self.locals[k].op;
-        let key = self.record_in(o).asked.key;
-        let held = self.content_in(key);
-        self.record_turn(o, v);
-        self.record_raising(v.deed, w, t);
-        self.store_content(key, held_after(held, v.deed));
-        self.trace_request(q, heard, self.locals[k].seen);
-        self.current = q.current_by(self.current);
-        stood(&mut self.locals[k], v);
     }
 }
 
-// A step of thread t: what it asks for, the one access, and what follows from the number heard.
+// A step of thread t: what it asks for, the one access, and what follows from the number heard; nothing of these for a thread with no
+// operation left. Whether it has one is asked once, so the two halves stand here by their parts.
 // stays: table, counters and rest side by side, here and in `play_lent`: docs/DECISIONS.md names both as functions over what is lent, and
 // each of the three has a lender of its own.
-#[tactic(auto, using(crate::proofs::Turns::decided_steps))]
+#[tactic(auto, using(crate::proofs::Turns::busy_steps, crate::proofs::Turns::idle_steps))]
 pub fn step_lent(table: &mut [Snapshot], block: &mut [Counts; THREADS], m: &mut Rest, t: ThreadId)
     ensures { whole_of m.new block.new table.new ≡ step_of (whole_of m.old block.old table.old) t }
 {
-    let q = m.asked(t);
-    let heard = perform(table, block, q);
-    m.decided(t, heard);
+    if m.is_busy(t) {
+        let q = m.request_in(t);
+        let heard = perform(table, block, q);
+        m.taken(t, q, heard);
+    } else {
+        m.idled();
+    }
 }
 
 // A whole schedule.
