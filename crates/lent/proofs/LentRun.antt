@@ -1,10 +1,10 @@
 -- A run over a lent table hands back what it must, from what each of its parts tells: the opening, the run, and what is handed back.
-use Prim.Native.Nat.{ℕ, zero, suc, ◌+◌, ◌<◌}
-use mathlib.Core.Path.{◌≡◌, refl, ap, ◌∙◌}
+use Prim.Native.Nat.{ℕ, zero, suc, ◌+◌, ◌-◌, ◌<◌}
+use mathlib.Core.Path.{◌≡◌, refl, sym, ap, ◌∙◌}
 use mathlib.Core.Bool.{Bool, true, false, cond}
 use mathlib.Core.List.{List}
 use native.Mathlib.Omega.{arith}
-use lib.ListN.{length, set}
+use lib.ListN.{length, take, drop, set}
 use lib.Seq.{sets}
 use lib.Dec.{eqb}
 use borrow.Author.Tests.{ltb-false, eq-eqb, ne_eqb}
@@ -16,17 +16,19 @@ use Rattle.figures.specs.Step.{run_of}
 use Rattle.play.specs.Meets.{Meets}
 use Rattle.machine.specs.declared.Rest.{Rest}
 use Rattle.machine.specs.Parts.{whole_of, rest_of}
+use Rattle.runfile.specs.declared.Layout.{Layout}
 use Rattle.runfile.specs.Read.{read_of}
+use Rattle.runfile.proofs.Answers.{accepted_operations}
 use Rattle.runfile.specs.Table.{Decides, Unplayable, running_order}
 use Rattle.play.proofs.Table.{tells_decides}
 use Rattle.play.specs.Run.{operations_of, schedule_of, machine_of, number_of, told_of, too_small}
 use Rattle.play.proofs.Accepted.{within, demand_held}
 use Rattle.play.proofs.Decided.{AsFile, hands_file}
 use Rattle.history.proofs.Split.{or_false}
-use Rattle.lent.specs.declared.Opened.{Opened}
 use Rattle.lent.specs.Table.{with_table, sizes_of}
 use Rattle.lent.specs.Runs.{lent_small, lent_number, lent_told, records_of, Opens, ran_over}
 use Rattle.lent.proofs.Agree.{lent_run}
+use Rattle.lent.proofs.Openings.{start_is, schedule_part}
 
 -- ---- The number decides.
 
@@ -78,22 +80,23 @@ module _ (f : List ℕ) (ys : List Snapshot) (read : (read_of f).number ≡ 0) (
   unfolding machine_of
   plays = starts ∙ lent_run (read_of f).threads (read_of f).keys (read_of f).counts (operations_of f) ys room (schedule_of f) (within f read)
 
--- a file that is opened, and what `run_over` says of the rest that it leaves
-module _ (f : List ℕ) (results log : ℕ) (ys : List Snapshot) {o : Opened} (h : Opens f results log (length ys) o) {m : Rest}
-    (rest : m ≡ rest_of (ran_over o.rest ys o.schedule.now)) where
+-- a file that is opened, the rest of its machine before the first step, and what `run_over` says of the rest that it leaves
+module _ (f : List ℕ) (results log : ℕ) (ys : List Snapshot) {l : Layout} (h : Opens f results log (length ys) l) {o m : Rest}
+    (first : o ≡ rest_of (start_of l.threads l.keys l.counts (take (l.schedule_at - l.operations_at) (drop l.operations_at f))))
+    (rest : m ≡ rest_of (ran_over o ys (take (length f - l.schedule_at) (drop l.schedule_at f)))) where
   pub accepts_it : Accepted f results log (length ys)
   accepts_it = accepted_by f results log (length ys) h.accepted
 
-  pub ran_as : ran_over o.rest ys o.schedule.now ≡ with_table (sets ys 0 (records_of f)) (machine_of f)
-  ran_as = rw (h.rest, h.schedule) (plays f ys accepts_it.read accepts_it.records)
+  pub ran_as : ran_over o ys (take (length f - l.schedule_at) (drop l.schedule_at f)) ≡ with_table (sets ys 0 (records_of f)) (machine_of f)
+  ran_as = rw (first, start_is f l h.read, schedule_part f l h.read) (plays f ys accepts_it.read accepts_it.records)
 
   ends : whole_of m (machine_of f).calculator.counters (machine_of f).calculator.snapshots ≡ machine_of f
   ends =
       ap (λ (r : Rest). whole_of r (machine_of f).calculator.counters (machine_of f).calculator.snapshots)
       (rest ∙ ap rest_of ran_as)
 
-  pub handed : AsFile f results log accepts_it.read m o.operations
-  handed = hands_file f results log accepts_it.read ends h.operations
+  pub handed : AsFile f results log accepts_it.read m l.operations
+  handed = hands_file f results log accepts_it.read ends (sym (accepted_operations f l h.read))
 
   pub is_number : number_of f results log ≡ 0
   is_number = same_number f results log (length ys) h.accepted

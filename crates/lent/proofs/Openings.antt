@@ -10,7 +10,6 @@ use Rattle.std.specs.Prelude.{Ok}
 use Rattle.std.specs.List.{count_by}
 use Rattle.std.proofs.lemmas.List.Recursion.{is_sum_by}
 use Rattle.history.proofs.Split.{or_second}
-use Rattle.figures.specs.declared.Machine.{Machine}
 use Rattle.figures.specs.Codec.{call_of, is_size}
 use Rattle.figures.specs.Start.{start_of}
 use Rattle.runfile.specs.declared.Refusal.TheVariants.{TooSmall}
@@ -22,8 +21,6 @@ use Rattle.runfile.specs.Answers.{reading_of}
 use Rattle.runfile.proofs.Answers.{accepted_number, accepted_threads, accepted_keys, accepted_counts, accepted_operations, layout_accepts}
 use Rattle.places.proofs.Held.{held_all}
 use Rattle.play.specs.Run.{operations_of, schedule_of, lacks, too_small, too_small_for}
-use Rattle.machine.specs.Parts.{rest_of}
-use Rattle.lent.specs.declared.Opened.{Opened}
 use Rattle.lent.specs.Table.{sizes_of}
 use Rattle.lent.specs.Runs.{lent_small, Opens, Refuses}
 
@@ -44,12 +41,12 @@ module _ (f : List ℕ) (l : Layout) (e : reading_of (Ok l) ≡ read_of f) where
       let o : l.schedule_at - l.operations_at ≡ l.operations = omega (arith, lies.schedule_next) in
       rw o (ap (λ (r : Reading). take r.operations (drop r.operations_at f)) e)
 
-  schedule_part : take (length f - l.schedule_at) (drop l.schedule_at f) ≡ schedule_of f
+  pub schedule_part : take (length f - l.schedule_at) (drop l.schedule_at f) ≡ schedule_of f
   schedule_part =
       let s : length f - l.schedule_at ≡ l.steps = omega (arith, lies.file_ends) in
       rw s (ap (λ (r : Reading). take r.steps (drop r.schedule_at f)) e)
 
-  start_is : start_of l.threads l.keys l.counts (take (l.schedule_at - l.operations_at) (drop l.operations_at f))
+  pub start_is : start_of l.threads l.keys l.counts (take (l.schedule_at - l.operations_at) (drop l.operations_at f))
       ≡ start_of (read_of f).threads (read_of f).keys (read_of f).counts (operations_of f)
   start_is = rw (accepted_threads f l e, accepted_keys f l e, accepted_counts f l e, operations_part)
 
@@ -71,17 +68,9 @@ module _ (f : List ℕ) (l : Layout) (e : reading_of (Ok l) ≡ read_of f) where
       pub table_refused : table ≤ sizes → Refuses f results log table (record { why = TooSmall; place = 0 })
       table_refused h = small_refused (or_second (too_small f results log) (lt-ltb table (sizes_of (operations_of f) + 1) (omega (arith, sizes_are))))
 
-      pub room_opens : lacking ≡ false → sizes < table → {m : Machine} {o : Opened}
-          → m ≡ start_of l.threads l.keys l.counts (take (l.schedule_at - l.operations_at) (drop l.operations_at f))
-          → o.operations ≡ l.operations → o.schedule.now ≡ take (length f - l.schedule_at) (drop l.schedule_at f) → o.rest ≡ rest_of m
-          → Opens f results log table o
-      room_opens h k m n s r =
+      pub room_opens : lacking ≡ false → sizes < table → Opens f results log table l
+      room_opens h k =
           let z = eq-eqb (read_of f).number 0 (accepted_number f l e) in
           let t : too_small f results log ≡ false = sym room_is ∙ h in
           let u = le-ltb table (sizes_of (operations_of f) + 1) (omega (arith, sizes_are)) in
-          record {
-            accepted = rw (z, t, u);
-            operations = n ∙ sym (accepted_operations f l e);
-            schedule = s ∙ schedule_part;
-            rest = r ∙ ap rest_of (m ∙ start_is);
-          }
+          record { accepted = rw (z, t, u); read = e }

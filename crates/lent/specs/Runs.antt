@@ -1,19 +1,19 @@
 -- A run whose snapshot table the caller lends: of a file, and of the room that is lent for results, for the log and for the table.
-use Rattle.std.specs.Prelude.{◌≡◌, ℕ, ◌+◌, Bool, false, cond, ◌||◌, List, set, ltb, eqb}
+use Rattle.std.specs.Prelude.{◌≡◌, ℕ, ◌+◌, Bool, false, cond, ◌||◌, List, set, ltb, eqb, Ok}
 use Rattle.figures.specs.declared.Snapshot.{Snapshot}
 use Rattle.figures.specs.declared.Machine.{Machine}
 use Rattle.figures.specs.Figure4.{block_of, fresh_snapshot}
-use Rattle.figures.specs.Start.{start_of}
 use Rattle.figures.specs.Step.{run_of}
 use Rattle.machine.specs.declared.Rest.{Rest}
-use Rattle.machine.specs.Parts.{whole_of, rest_of}
+use Rattle.machine.specs.Parts.{whole_of}
 use Rattle.runfile.specs.declared.Refused.{Refused}
 use Rattle.runfile.specs.Refusals.{number_of}
+use Rattle.runfile.specs.declared.Layout.{Layout}
 use Rattle.runfile.specs.Read.{read_of}
+use Rattle.runfile.specs.Answers.{reading_of}
 use Rattle.play.specs.declared.Told.{Told}
-use Rattle.play.specs.Run.{operations_of, schedule_of, machine_of, count_of, too_small, refused, ran}
+use Rattle.play.specs.Run.{operations_of, machine_of, too_small, refused, ran}
 use Rattle.lent.specs.Table.{announced_in, sizes_of}
-use Rattle.lent.specs.declared.Opened.{Opened}
 
 -- refusal 11: a lent output is too small. The table needs one record more than there are size operations.
 abbrev pub lent_small : List ℕ → ℕ → ℕ → ℕ → Bool
@@ -33,13 +33,12 @@ lent_told f results log table =
 abbrev pub records_of : List ℕ → List Snapshot
 records_of f = announced_in (machine_of f)
 
--- ---- Before the first step: a file that nothing refuses is opened, and of another the first row that holds is told.
+-- ---- Before the first step: a file that nothing refuses is opened, with the layout that reading tells, and of another the first row that
+-- holds is told.
 
-pub record Opens (f : List ℕ) (results log table : ℕ) (o : Opened) : Type 0 where
+pub record Opens (f : List ℕ) (results log table : ℕ) (l : Layout) : Type 0 where
   pub accepted : lent_number f results log table ≡ 0
-  pub operations : o.operations ≡ count_of f
-  pub schedule : o.schedule.now ≡ schedule_of f
-  pub rest : o.rest ≡ rest_of (start_of (read_of f).threads (read_of f).keys (read_of f).counts (operations_of f))
+  pub read : reading_of (Ok l) ≡ read_of f
 
 pub record Refuses (f : List ℕ) (results log table : ℕ) (e : Refused) : Type 0 where
   pub number : number_of e.why ≡ lent_number f results log table

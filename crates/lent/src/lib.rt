@@ -18,7 +18,7 @@ use lending::exchange;
 use machine::{Rest, rest_of};
 pub use machine::{play_lent, step_lent};
 use play::{Played, Told, hand_back, lacks_room};
-use runfile::{Refusal, Refused};
+use runfile::{Layout, Refusal, Refused};
 use terms::SnapshotId;
 
 // A whole run over a lent table, from the rest of a machine before its first step. Record 0 is announced and not collecting before that
@@ -32,14 +32,6 @@ pub fn run_over(table: &mut [Snapshot], m: &mut Rest, schedule: &[u8])
     play_lent(table, &mut block, m, schedule);
 }
 
-// A run before its first step: how many operations, the schedule, and the machine without its counters and its table.
-#[derive(Clone, Copy)]
-struct Opened<'a> {
-    operations: usize,
-    schedule: &'a [u8],
-    rest: Rest,
-}
-
 // How many of these operation bytes are sizes.
 #[tactic(auto, using(crate::proofs::Openings::sizes_counted))]
 fn sizes_in(operations: &[u8]) -> usize
@@ -51,8 +43,9 @@ fn sizes_in(operations: &[u8]) -> usize
         .count()
 }
 
-// All that is decided before the first step. The table needs one record more than there are sizes.
-fn opening(file: &[u8], results: usize, log: usize, table: usize) -> Result<Opened<'_>, Refused>
+// All that is decided before the first step: the file, as reading tells it, where nothing refuses it. The table needs one record more
+// than there are sizes.
+fn opening(file: &[u8], results: usize, log: usize, table: usize) -> Result<Layout, Refused>
     ensures opened { IfOk result (Opens file.now results log table) }
     ensures refused { IfErr result (Refuses file.now results log table) }
 {
@@ -61,12 +54,31 @@ fn opening(file: &[u8], results: usize, log: usize, table: usize) -> Result<Open
     if lacks_room(layout.operations, results, log) || table <= sizes_in(operations) {
         return Err(Refusal::TooSmall.at(0));
     }
+    Ok(layout)
+}
+
+// A file that nothing refuses, played over the lent table and handed back.
+// stays: not inlined into `run`, since a function clears all of its frame at entry, and a call that is refused would pay for the machine
+#[inline(never)]
+fn play_and_hand_back(
+    file: &[u8],
+    layout: Layout,
+    results: &mut [u32],
+    log: &mut [u32],
+    table: &mut [Snapshot],
+) -> Result<Played, Refused>
+    requires { Opens file.now (length results.old) (length log.old) (length table.old) layout }
+    ensures value { told_by result ≡ lent_told file.now (length results.old) (length log.old) (length table.old) }
+    ensures results_after { results.new ≡ sets results.old 0 (when (lent_number file.now (length results.old) (length log.old) (length table.old)) (results_of file.now)) }
+    ensures log_after { log.new ≡ sets log.old 0 (when (lent_number file.now (length results.old) (length log.old) (length table.old)) (entries_of file.now)) }
+    ensures table_after { table.new ≡ sets table.old 0 (when (lent_number file.now (length results.old) (length log.old) (length table.old)) (records_of file.now)) }
+    ensures meets { OnOk result (Meets file.now) }
+{
+    let operations = &file[layout.operations_at..layout.schedule_at];
     let start = Machine::start(layout.threads, layout.keys, layout.counts, operations);
-    Ok(Opened {
-        operations: layout.operations,
-        schedule: &file[layout.schedule_at..],
-        rest: rest_of(start),
-    })
+    let mut rest = rest_of(start);
+    run_over(table, &mut rest, &file[layout.schedule_at..]);
+    hand_back(&rest, layout.operations, results, log)
 }
 
 // Reads a file, plays it over the lent table and hands it back. After a run the table holds the announced records, and the others as
@@ -83,13 +95,8 @@ pub fn run(
     ensures table_after { table.new ≡ sets table.old 0 (when (lent_number file.now (length results.old) (length log.old) (length table.old)) (records_of file.now)) }
     ensures meets { OnOk result (Meets file.now) }
 {
-    let Opened {
-        operations,
-        schedule,
-        mut rest,
-    } = opening(file, results.len(), log.len(), table.len())?;
-    run_over(table, &mut rest, schedule);
-    hand_back(&rest, operations, results, log)
+    let layout = opening(file, results.len(), log.len(), table.len())?;
+    play_and_hand_back(file, layout, results, log, table)
 }
 
 // The same, with the answer in the form in which C is handed it.

@@ -128,6 +128,31 @@ fn machine_after(file: &[u8], layout: Layout) -> Machine
     machine::play(start, &file[layout.schedule_at..])
 }
 
+// A file that reading accepted and that there is room for, played and handed back.
+// stays: not inlined into `run`, since a function clears all of its frame at entry, and a call that is refused would pay for the machine
+#[inline(never)]
+fn play_and_hand_back(
+    file: &[u8],
+    layout: Layout,
+    results: &mut [u32],
+    log: &mut [u32],
+) -> Result<Played, Refused>
+    requires { reading_of (Ok layout) ≡ read_of file.now }
+    ensures value { told_by result ≡ told_of file.now (length results.old) (length log.old) }
+    ensures results_after { results.new ≡ sets results.old 0
+        (when (number_of file.now (length results.old) (length log.old)) (results_of file.now)) }
+    ensures log_after { log.new ≡ sets log.old 0
+        (when (number_of file.now (length results.old) (length log.old)) (entries_of file.now)) }
+    ensures meets { OnOk result (Meets file.now) }
+{
+    hand_back(
+        &rest_of(machine_after(file, layout)),
+        layout.operations,
+        results,
+        log,
+    )
+}
+
 // Reads a file, plays it and hands it back. A refusal leaves both buffers as they were. What is handed back meets demand 3, and its
 // log is in order.
 pub fn run(file: &[u8], results: &mut [u32], log: &mut [u32]) -> Result<Played, Refused>
@@ -142,10 +167,5 @@ pub fn run(file: &[u8], results: &mut [u32], log: &mut [u32]) -> Result<Played, 
     if lacks_room(layout.operations, results.len(), log.len()) {
         return Err(Refusal::TooSmall.at(0));
     }
-    hand_back(
-        &rest_of(machine_after(file, layout)),
-        layout.operations,
-        results,
-        log,
-    )
+    play_and_hand_back(file, layout, results, log)
 }

@@ -1,4 +1,4 @@
-use Rattle.std.proofs.Common.{arith, refl}
+use Rattle.std.proofs.Common.{arith}
 use Rattle.lent.proofs.Openings.{lies, lacking_refused, table_refused, room_opens}
 use Rattle.lent.proofs.opening.Goals as goal
 use Rattle.lent.proofs.opening.Goals.{then-lacks_room-via-then-lacks_room, then-lacks_room-via-else-lacks_room+then-table-sizes_in}
@@ -11,12 +11,6 @@ slice_bounds-operations-start c = let a = lies c.args.file.now c.in_ok-layout.la
 
 pub slice_bounds-operations-end : goal.slice_bounds-operations-end
 slice_bounds-operations-end c = let a = lies c.args.file.now c.in_ok-layout.layout c.in_ok-layout.ensures in omega (arith, a.file_ends)
-
-pub slice_bounds-result-count : goal.slice_bounds-result-count
-slice_bounds-result-count c = let a = lies c.args.file.now c.in_ok-layout.layout c.in_ok-layout.ensures in omega (arith, a.file_ends)
-
-pub slice_bounds-result-start : goal.slice_bounds-result-start
-slice_bounds-result-start c = let a = lies c.args.file.now c.in_ok-layout.layout c.in_ok-layout.ensures in omega (arith, a.file_ends)
 
 pub returns-then-lacks_room-clause-refused : goal.returns-then-lacks_room-clause-refused
 returns-then-lacks_room-clause-refused c =
@@ -35,4 +29,4 @@ returns-clause-opened c =
     let a = c.args in
     let l = c.in_ok-layout in
     room_opens a.file.now l.layout l.ensures a.results a.log a.table c.lacks_room.ensures c.sizes_in.ensures c.if-lacks_room.false
-    (omega arith) c.start-start.ensures refl refl c.rest_of.ensures
+    (omega arith)

@@ -1,4 +1,4 @@
-use Rattle.std.proofs.Common.{◌≡◌, Ok, ap, sym, ◌∙◌, length, rules}
+use Rattle.std.proofs.Common.{◌≡◌, Ok, ap, sym, ◌∙◌, length}
 use Rattle.runfile.specs.Read.{read_of}
 use Rattle.runfile.specs.Answers.{reading_of}
 use Rattle.runfile.proofs.Answers.{accepted_number, accepted_operations}
@@ -8,13 +8,13 @@ use Rattle.play.specs.Run.{machine_of}
 use Rattle.play.proofs.Answers.{on_ok}
 use Rattle.play.proofs.Accepted.{demand_held}
 use Rattle.play.proofs.Decided.{hands_file}
-use Rattle.play.proofs.run.Goals as goal
+use Rattle.play.proofs.play_and_hand_back.Goals as goal
 
 pub returns : goal.returns
 returns c =
     let f = c.args.file.now in
-    let layout = c.in_ok-layout.layout in
-    let e : reading_of (Ok layout) ≡ read_of f = search rules in
+    let layout = c.args.layout in
+    let e : reading_of (Ok layout) ≡ read_of f = c.requires in
     let m = c.machine_after in
     let is : whole_of c.rest_of.result m.result.calculator.counters m.result.calculator.snapshots ≡ machine_of f =
     ap (λ (x : Rest). whole_of x m.result.calculator.counters m.result.calculator.snapshots) c.rest_of.ensures ∙ m.ensures in
