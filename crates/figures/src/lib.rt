@@ -384,8 +384,7 @@ fn unbegun(thread: u8, b: u8) -> Record
 }
 
 // The thread that has operation o: each thread's operations follow those of the thread before.
-// stays: 8 where there is no such thread, since `owner_of` of specs/Start.antt is 8 there, in every record of an operation that is not
-// there (`start_of`).
+// stays: 8 where there is no such thread, since `owner_of` of specs/Start.antt is 8 there: for an operation beyond the counts' sum.
 fn owner_of(counts: [u16; THREADS], o: usize) -> u8
     ensures { result ≡ owner_of counts o }
 {
