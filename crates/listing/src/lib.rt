@@ -102,7 +102,6 @@ impl Display for Raiser {
 }
 
 // The operation bytes of a file that reading accepted.
-#[tactic(auto, using(play::proofs::Accepted::laid_out))]
 fn operations_of<'a>(file: &'a [u8], layout: &Layout) -> &'a [u8]
     requires { reading_of (Ok layout.now) ≡ read_of file.now }
     ensures { result.now ≡ operations_of file.now }
