@@ -400,14 +400,7 @@ module _ (m : Rest) (counters : List Counts) (table : List Snapshot) (t : Thread
       go true e = taken_steps w e
       go false e = refl
 
-  -- so for a thread with an operation left, and for one with none
-  known_steps : (b : Bool) → is_busy m t ≡ b → (w : ℕ) → w ≡ heard (asked_if b) counters table → after_if b w ≡ step_of whole t
-  known_steps b e w h = subst (λ (x : Bool). after_if x w ≡ step_of whole t) e
-      (decided_steps w (h ∙ ap (λ (x : Bool). heard (asked_if x) counters table) (sym e)))
-
-  pub busy_steps : is_busy m t ≡ true → (w : ℕ) → w ≡ heard (asks_of m t) counters table →
-      whole_of (taken_of m t w) (counters_by (asks_of m t) counters) (table_by (asks_of m t) table) ≡ step_of whole t
-  busy_steps = known_steps true
-
+  -- so for a thread with no operation left, which asks for nothing
   pub idle_steps : is_busy m t ≡ false → whole_of (idled_of m) counters table ≡ step_of whole t
-  idle_steps e = known_steps false e 0 refl
+  idle_steps e = subst (λ (b : Bool). after_if b 0 ≡ step_of whole t) e
+      (decided_steps 0 (ap (λ (b : Bool). heard (asked_if b) counters table) (sym e)))

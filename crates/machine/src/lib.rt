@@ -282,18 +282,18 @@ impl Rest {
     }
 }
 
-// A step of thread t: what it asks for, the one access, and what follows from the number heard; nothing of these for a thread with no
-// operation left. Whether it has one is asked once, so the two halves stand here by their parts.
+// A step of thread t: what it asks for, the one access, and what follows from the number heard. A thread with no operation left asks for
+// nothing, and is told apart at once: many steps of a long schedule are idle.
 // stays: table, counters and rest side by side, here and in `play_lent`: docs/DECISIONS.md names both as functions over what is lent, and
 // each of the three has a lender of its own.
-#[tactic(auto, using(crate::proofs::Turns::busy_steps, crate::proofs::Turns::idle_steps))]
+#[tactic(auto, using(crate::proofs::Turns::decided_steps, crate::proofs::Turns::idle_steps))]
 pub fn step_lent(table: &mut [Snapshot], block: &mut [Counts; THREADS], m: &mut Rest, t: ThreadId)
     ensures { whole_of m.new block.new table.new ≡ step_of (whole_of m.old block.old table.old) t }
 {
     if m.is_busy(t) {
-        let q = m.request_in(t);
+        let q = m.asked(t);
         let heard = perform(table, block, q);
-        m.taken(t, q, heard);
+        m.decided(t, heard);
     } else {
         m.idled();
     }
